@@ -1,0 +1,11 @@
+pub mod Tests
+pub mod Tables
+pub mod Lists
+pub mod Places
+pub mod Sums
+pub mod Division
+pub mod Powers
+pub mod Signs
+pub mod Differences
+pub mod Floats
+pub mod Within
