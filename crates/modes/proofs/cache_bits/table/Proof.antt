@@ -1,0 +1,12 @@
+-- `modes::cache_bits::table` hands out the list of the definition.
+use mathlib.Core.Path.{refl}
+use Rattle.modes.specs.CacheBits.{cacheBits}
+use Rattle.modes.proofs.cache_bits.table.Statement.{statement}
+use Rattle.modes.proofs.cache_bits.table.Tie as tie
+
+returns : tie.Need-returns
+unfolding cacheBits
+returns c = refl
+
+pub table-spec : {M : Type 1} → statement M
+table-spec = tie.close (tie.spec returns)

@@ -1,0 +1,12 @@
+-- `modes::vectors::table` hands out the list of the definition.
+use mathlib.Core.Path.{refl}
+use Rattle.modes.specs.Vectors.{vectors}
+use Rattle.modes.proofs.vectors.table.Statement.{statement}
+use Rattle.modes.proofs.vectors.table.Tie as tie
+
+returns : tie.Need-returns
+unfolding vectors
+returns c = refl
+
+pub table-spec : {M : Type 1} → statement M
+table-spec = tie.close (tie.spec returns)
