@@ -1,0 +1,36 @@
+use borrow.Author.Needs.{needs}
+use native.Mathlib.Omega.{arith}
+use borrow.Author.Tests.{lt-ltb, le-ltb}
+use Rattle.entcode.proofs.Logs.{corrections, table-right}
+use Rattle.entcode.proofs.eighths_of.Statement.{statement}
+use Rattle.entcode.proofs.eighths_of.Tie as tie
+
+sub-b : tie.Need-sub-b
+sub-b c = search needs
+
+cast-i : tie.Need-cast-i
+cast-i c = search needs
+
+mul-if1 : tie.Need-mul-if1
+mul-if1 c = search needs
+
+array-read-if1 : tie.Need-array-read-if1
+array-read-if1 c = search needs
+
+add-result : tie.Need-add-result
+add-result c = search needs
+
+returns : tie.Need-returns
+unfolding corrections
+returns c =
+    let r = c .before .args .r in
+    (simp (lt-ltb _ _ (c .if1 .taken)) at (table-right r (omega arith) (omega arith)), omega arith)
+
+returns-2 : tie.Need-returns-2
+unfolding corrections
+returns-2 c =
+    let r = c .before .args .r in
+    (simp (le-ltb _ _ (c .if1 .left)) at (table-right r (omega arith) (omega arith)), omega arith)
+
+pub eighths-of-spec : {M : Type 1} → statement M
+eighths-of-spec = tie.close (tie.spec sub-b cast-i mul-if1 array-read-if1 add-result returns returns-2)

@@ -1,0 +1,20 @@
+-- What document 01 asks of a coder state that is handed in, as far as it is the same for reader and writer; and what tell says.
+use Prim.Native.Nat.{ℕ, _+_, _*_}
+use mathlib.Core.Bool.{Bool, cond, _&&_}
+use lib.Dec.{ltb, leb}
+use Rattle.entcode.specs.declared.Told.{Told}
+use Rattle.entcode.specs.declared.Told.the-variants.{Used, Refused}
+use Rattle.entcode.specs.Tell.{tellOf}
+
+-- storage 0..1,275; range above 2^23 and at most 2^31; waiting raw bits 0..32; bit count 33..65,535
+unfoldable pub countsOk : ℕ → ℕ → ℕ → ℕ → Bool
+countsOk storage rng waiting total =
+    leb storage 1275 && ltb 8388608 rng && leb rng 2147483648 && leb waiting 32 && leb 33 total && leb total 65535
+
+-- the test of refusal 4: tell is at most 8 bits a byte of storage and 32 more
+abbrev pub tellOk : ℕ → ℕ → ℕ → Bool
+tellOk storage total rng = leb (tellOf total rng) (8 * storage + 32)
+
+-- what tell and tell_frac answer: n, or refusal 1 where the state breaks its rule
+abbrev pub toldOf : Bool → ℕ → Told
+toldOf ok n = cond ok (Used n) (Refused 1)
