@@ -1,0 +1,14 @@
+pub mod Places
+pub mod Forms
+pub mod Tables
+pub mod RawBits
+pub mod Pulls
+pub mod Uniform
+pub mod Accepted
+pub mod Answers
+pub mod Found
+pub mod Steps
+pub mod Kept
+pub mod Chain
+pub mod Same
+pub mod Values

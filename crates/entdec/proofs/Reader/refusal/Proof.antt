@@ -1,0 +1,25 @@
+use Rattle.entdec.specs.Rule.{readRefusal}
+use borrow.Author.Needs.{needs}
+use Rattle.entdec.proofs.Reader.refusal.Statement.{statement}
+use Rattle.entdec.proofs.Reader.refusal.Tie as tie
+
+tell-ok-requires : tie.Need-tell-ok-requires
+tell-ok-requires c κs = search needs
+
+sound-requires : tie.Need-sound-requires
+sound-requires c κs = search needs
+
+cast-refusal-of : tie.Need-cast-refusal-of
+cast-refusal-of c = search needs
+
+refusal-of-requires : tie.Need-refusal-of-requires
+refusal-of-requires c κs = search needs
+
+returns : tie.Need-returns
+unfolding readRefusal
+returns c = rw (c .refusal-of .ensures, c .before .before .sound .ensures, c .before .before .before .tell-ok .ensures)
+
+pub refusal-spec : {M : Type 1} → statement M
+refusal-spec =
+    tie.close
+    (tie.spec tell-ok-requires sound-requires cast-refusal-of refusal-of-requires returns)

@@ -1,0 +1,5 @@
+pub mod Read
+pub mod Symbols
+pub mod Rule
+pub mod Answer
+pub mod Ready

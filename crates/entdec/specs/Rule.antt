@@ -1,0 +1,26 @@
+-- What a reader that is handed in must meet, and what a read is refused with. Document 01, "When the answer is no".
+use Prim.Native.Nat.{ℕ}
+use mathlib.Core.List.{List}
+use mathlib.Core.Bool.{Bool, true, _&&_}
+use lib.ListN.{length}
+use lib.Dec.{ltb, leb, eqb}
+use Rattle.entcode.specs.Counts.{countsOk, tellOk}
+use Rattle.entcode.specs.Refusal.{refusal}
+use Rattle.entcode.specs.Sym.{Shape, lengthOk, shapeOk, listOk}
+use Rattle.entdec.specs.declared.Reader.{Reader}
+
+-- the rule of a reader: the counts, its value below its range, each place at most the storage, the held byte 0..255
+unfoldable pub readerOk : Reader → Bool
+readerOk d =
+    countsOk (d .storage) (d .rng) (d .waiting) (d .total) && ltb (d .val) (d .rng) && leb (d .offs) (d .storage)
+    && leb (d .ends) (d .storage) && leb (d .rem) 255
+
+-- The refusal of a call that can read symbols, 0 for none. n bytes are lent. lengths, numbers, lists and own are the call's own: its other
+-- lengths, its numbers, its lists, its number from 5 to 11
+unfoldable pub readRefusal : ℕ → Reader → Bool → Bool → Bool → ℕ → ℕ
+readRefusal n d lengths numbers lists own =
+    refusal (eqb (d .storage) n && lengths) (readerOk d && numbers) lists own true (tellOk (d .storage) (d .total) (d .rng))
+
+-- the refusal of reading one symbol of a kind
+unfoldable pub refusalR : Shape → List ℕ → Reader → ℕ
+refusalR h s d = readRefusal (length s) d (lengthOk h) (shapeOk h) (listOk h) 0

@@ -1,0 +1,148 @@
+// The range decoder of RFC 6716, section 4.1: a state by value, its bytes lent beside it.
+ghost use mathlib.Core.Path.{_≡_};
+ghost use Rattle.entcode.specs.Counts.{toldOf};
+ghost use Rattle.entcode.specs.Sym.Shape.{bit, table, uint, raw};
+ghost use Rattle.entcode.specs.Tell.{tellOf, tellFracOf};
+ghost use Rattle.entdec.specs.Answer.{answer, startOf};
+ghost use Rattle.entdec.specs.Rule.{readerOk, refusalR};
+ghost use Rattle.entdec.specs.Symbols.{readSym};
+use entcode::Told;
+
+mod bytes;
+pub mod gate;
+pub mod work;
+
+// A reader: the lent length, the next place at the front, how many bytes are taken at the end, the raw bits that wait and how many they
+// are, the bit count, the size of the range, the distance from its top, the quotient kept by the last division, the last byte, the mark.
+pub struct Reader {
+    pub storage: u32,
+    pub offs: u32,
+    pub ends: u32,
+    pub window: u32,
+    pub waiting: u32,
+    pub total: u32,
+    pub rng: u32,
+    pub val: u32,
+    pub ext: u32,
+    pub rem: u32,
+    pub error: bool,
+}
+
+// A value read, and the state after it.
+pub struct Read {
+    pub value: u32,
+    pub next: Reader,
+}
+
+// What a public read answers: what was read, or the number of the refusal.
+pub enum Answer {
+    Got(Read),
+    Refused(u32),
+}
+
+// A new reader, or the number of the refusal.
+pub enum Started {
+    At(Reader),
+    Refused(u32),
+}
+
+impl Reader {
+    // A reader of a packet, section 4.1.1.
+    pub fn new(s: &[u8]) -> Started
+        ensures { λ r. ⌜ r ≡ startOf (now (s .entry)) ⌝ }
+    {
+        let n = s.len();
+        if n <= 1275 {
+            let b = laws::byte_at(s, 0);
+            let at = bytes::forward(0, n);
+            let d = Reader {
+                storage: n as u32,
+                offs: at,
+                ends: 0,
+                window: 0,
+                waiting: 0,
+                total: 9,
+                rng: 128,
+                val: 127 - b / 2,
+                ext: 0,
+                rem: b,
+                error: false,
+            };
+            Started::At(d.normalize(s))
+        } else {
+            Started::Refused(1)
+        }
+    }
+
+    // One bit that is 1 with a probability of 1 in 2^logp, section 4.1.3.2.
+    pub fn bit_logp(self, s: &[u8], logp: u32) -> Answer
+        ensures { λ r. ⌜ r ≡ answer (refusalR (bit logp) (now (s .entry)) self) (readSym (bit logp) (now (s .entry)) self) ⌝ }
+    {
+        let n = self.refusal(s.len(), true, (1 <= logp) & (logp <= 15), true, 0);
+        if n == 0 {
+            Answer::Got(self.bit(s, logp))
+        } else {
+            Answer::Refused(n)
+        }
+    }
+
+    // A symbol of a table of 2^ftb places, section 4.1.3.3.
+    pub fn icdf(self, s: &[u8], t: &[u8], ftb: u32) -> Answer
+        ensures { λ r.
+            ⌜ r ≡ answer (refusalR (table (now (t .entry)) ftb) (now (s .entry)) self) (readSym (table (now (t .entry)) ftb) (now (s .entry)) self) ⌝ }
+    {
+        let falls = entcode::table::table_ok(t, ftb);
+        let n = self.refusal(s.len(), 0 < t.len(), (1 <= ftb) & (ftb <= 8), falls, 0);
+        if n == 0 {
+            Answer::Got(self.symbol(s, t, ftb))
+        } else {
+            Answer::Refused(n)
+        }
+    }
+
+    // A number below ft, all alike, section 4.1.5.
+    pub fn uint(self, s: &[u8], ft: u32) -> Answer
+        ensures { λ r. ⌜ r ≡ answer (refusalR (uint ft) (now (s .entry)) self) (readSym (uint ft) (now (s .entry)) self) ⌝ }
+    {
+        let n = self.refusal(s.len(), true, (2 <= ft) & (ft <= 4294967295), true, 0);
+        if n == 0 {
+            Answer::Got(self.uniform(s, ft))
+        } else {
+            Answer::Refused(n)
+        }
+    }
+
+    // n raw bits from the end of the packet, section 4.1.4.
+    pub fn bits(self, s: &[u8], n: u32) -> Answer
+        ensures { λ r. ⌜ r ≡ answer (refusalR (raw n) (now (s .entry)) self) (readSym (raw n) (now (s .entry)) self) ⌝ }
+    {
+        let no = self.refusal(s.len(), true, (1 <= n) & (n <= 25), true, 0);
+        if no == 0 {
+            Answer::Got(self.raw(s, n))
+        } else {
+            Answer::Refused(no)
+        }
+    }
+
+    // How many bits are used, section 4.1.6.1.
+    pub fn tell(self) -> Told
+        ensures { λ r. ⌜ r ≡ toldOf (readerOk self) (tellOf (self .total) (self .rng)) ⌝ }
+    {
+        if self.sound() {
+            Told::Used(entcode::tell_of(self.total, self.rng))
+        } else {
+            Told::Refused(1)
+        }
+    }
+
+    // How many eighths of a bit are used, section 4.1.6.2.
+    pub fn tell_frac(self) -> Told
+        ensures { λ r. ⌜ r ≡ toldOf (readerOk self) (tellFracOf (self .total) (self .rng)) ⌝ }
+    {
+        if self.sound() {
+            Told::Used(entcode::tell_frac_of(self.total, self.rng))
+        } else {
+            Told::Refused(1)
+        }
+    }
+}
