@@ -1,0 +1,11 @@
+pub mod Outs
+pub mod Flushes
+pub mod Shifts
+pub mod Forms
+pub mod Tails
+pub mod Taken
+pub mod Chain
+pub mod Stays
+pub mod Sticky
+pub mod Alike
+pub mod Said

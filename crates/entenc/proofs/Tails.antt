@@ -1,0 +1,258 @@
+-- Closing: the two roundings, the gap one byte at a time, the cases of the last byte, and all of it in a row. Assumes nothing.
+use Prim.Native.Nat.{ℕ, zero, suc, _+_, _-_, _*_, _/_, _%_, _^_, _<_, _≤_}
+use mathlib.Core.Path.{_≡_, refl, ap, _∙_}
+use mathlib.Core.Bool.{true, false}
+use mathlib.Core.List.{List}
+use native.Mathlib.Nat.{not-suc-le-zero, div-mul-le-self, lt-irrefl, lt-of-lt-of-le, le-trans, le-of-lt}
+use native.Mathlib.Numerals.{sub-one}
+use native.Mathlib.Omega.{arith}
+use lib.ListN.{set}
+use lib.Dec.{ltb}
+use lib.Count.{leadingZeros, leading-top}
+use lib.Pow.{pow-mono, pow-pos}
+use borrow.Author.Tests.{lt-ltb, le-ltb, le-leb, lt-leb, eq-eqb, ne-eqb}
+use Rattle.laws.proofs.Tests.{by-le, cond-by}
+use Rattle.entenc.specs.Out.{Out, out, marked, emit, flushed, leftOf}
+use Rattle.entenc.specs.Write.{Wr, wr, outOf, withRange, settled, shiftW, shiftsW}
+use Rattle.entenc.specs.Close.{rounded, tailBits, tailEnd, turnsOf, ending, endW, restRem, zeroed, cleared, joined, busts, finished, closeOut, closeW}
+use Rattle.entenc.specs.Ready.{Fit, Turning, Ready}
+use Rattle.entenc.proofs.Outs.{emit-fit}
+use Rattle.entenc.proofs.Shifts.{held-le, turning-step}
+
+-- ---- the last number
+
+pub rounded-le : (m val : ℕ) → rounded m val ≤ val + (2 ^ m - 1)
+unfolding rounded
+rounded-le m val = div-mul-le-self (val + (2 ^ m - 1)) (2 ^ m)
+
+-- the range has from 24 to 32 binary digits
+record Top (rng : ℕ) : Type 0 where
+  zeros : leadingZeros 32 rng ≤ 8
+  part : 2 ^ (31 - leadingZeros 32 rng) ≤ rng
+
+top : (rng : ℕ) → 8388608 < rng → rng < 4294967296 → Top rng
+top rng p q =
+    let t = leading-top 32 rng (omega arith) q in
+    let e : 31 - leadingZeros 32 rng ≡ t .0 = omega (arith, t .1) in
+    let big : 23 ≤ t .0
+    = by-le 23 (t .0) (λ h. h)
+    (λ h.
+    let b : 2 ^ suc (t .0) ≤ 2 ^ 23 = pow-mono h in
+    absurd (lt-irrefl rng (lt-of-lt-of-le (t .3) (le-trans b (le-of-lt p))))) in
+    record { zeros = omega (arith, t .1); part = rw e (t .2) }
+
+-- what the two roundings need
+pub record Rounds (val rng : ℕ) : Type 0 where
+  pub zeros : leadingZeros 32 rng ≤ 8
+  pub first : val + 2 ^ (31 - leadingZeros 32 rng) ≤ val + rng
+  pub second : val + 2 ^ (31 - leadingZeros 32 rng - 1) ≤ val + rng
+  pub below : rounded (31 - leadingZeros 32 rng) val < val + rng
+  pub one : 1 ≤ 2 ^ (31 - leadingZeros 32 rng)
+
+pub rounds : (val rng : ℕ) → 8388608 < rng → val + rng < 4294967296 → Rounds val rng
+rounds val rng p q =
+    let t = top rng p (omega arith) in
+    let a : 2 ^ (31 - leadingZeros 32 rng - 1) ≤ 2 ^ (31 - leadingZeros 32 rng) = pow-mono (omega arith) in
+    let b = rounded-le (31 - leadingZeros 32 rng) val in
+    let o = pow-pos (31 - leadingZeros 32 rng) in
+    record {
+      zeros = t .zeros;
+      first = omega (arith, t .part);
+      second = omega (arith, t .part);
+      below = omega (arith, t .part);
+      one = o;
+    }
+
+pub tail-more : (val rng : ℕ) → val + rng - rounded (31 - leadingZeros 32 rng) val < 2 ^ (31 - leadingZeros 32 rng)
+    → (leadingZeros 32 rng + 1 ≡ tailBits val rng) × (rounded (31 - leadingZeros 32 rng - 1) val ≡ tailEnd val rng)
+unfolding tailBits tailEnd
+tail-more val rng h =
+    let e : 31 - leadingZeros 32 rng - 1 ≡ 31 - (leadingZeros 32 rng + 1) = omega arith in
+    (simp (lt-ltb _ _ h), simp (lt-ltb _ _ h, e))
+
+pub tail-same : (val rng : ℕ) → 2 ^ (31 - leadingZeros 32 rng) ≤ val + rng - rounded (31 - leadingZeros 32 rng) val
+    → (leadingZeros 32 rng ≡ tailBits val rng) × (rounded (31 - leadingZeros 32 rng) val ≡ tailEnd val rng)
+unfolding tailBits tailEnd
+tail-same val rng h = (simp (le-ltb _ _ h), simp (le-ltb _ _ h))
+
+-- at most 9 bits, of a number below 2^32
+pub tail-bits : (val rng : ℕ) → 8388608 < rng → val + rng < 4294967296 → tailBits val rng ≤ 9
+unfolding tailBits
+tail-bits val rng p q =
+    let h = rounds val rng p q in
+    cond-by (λ (n : ℕ). n ≤ 9) (ltb (val + rng - rounded (31 - leadingZeros 32 rng) val) (2 ^ (31 - leadingZeros 32 rng)))
+    (λ e. omega (arith, h .zeros))
+    (λ e. omega (arith, h .zeros))
+
+pub tail-end : (val rng : ℕ) → 8388608 < rng → val + rng < 4294967296 → tailEnd val rng + 1 < 4294967296
+unfolding tailEnd tailBits
+tail-end val rng p q =
+    let h = rounds val rng p q in
+    let a = rounded-le (31 - leadingZeros 32 rng) val in
+    let b = rounded-le (31 - (leadingZeros 32 rng + 1)) val in
+    let e : 31 - leadingZeros 32 rng - 1 ≡ 31 - (leadingZeros 32 rng + 1) = omega arith in
+    let c : val + 2 ^ (31 - (leadingZeros 32 rng + 1)) ≤ val + rng = rw e at (h .second) in
+    cond-by (λ (n : ℕ). rounded (31 - n) val + 1 < 4294967296)
+    (ltb (val + rng - rounded (31 - leadingZeros 32 rng) val) (2 ^ (31 - leadingZeros 32 rng)))
+    (λ t. omega (arith, h .one, pow-pos (31 - (leadingZeros 32 rng + 1))))
+    (λ t. omega (arith, h .one, h .first))
+
+-- ---- its bytes
+
+pub ending-turns : (w : Wr) (end : ℕ) → Ready 1 w → end + 1 < 4294967296 → Turning 2 (ending end 1 w)
+ending-turns w end r h =
+    let s = r .sound in
+    record {
+      fit = s .fit;
+      some = omega arith;
+      most = omega arith;
+      top = h;
+      rem = s .rem;
+      ext = omega (arith, r .ext);
+      total = omega (arith, r .total);
+    }
+
+pub by-none : (k : ℕ) (w : Wr) → k ≡ 0 → w ≡ shiftsW k w
+unfolding shiftsW
+by-none k w h = rw h
+
+pub by-one : (k : ℕ) (w : Wr) → k ≡ 1 → shiftW w ≡ shiftsW k w
+unfolding shiftsW
+by-one k w h = rw h
+
+two : (k : ℕ) → (k ≡ 0 → ⊥) → (k ≡ 1 → ⊥) → k ≤ 2 → k ≡ 2
+two zero a b h = absurd (a refl)
+two (suc zero) a b h = absurd (b refl)
+two (suc (suc k)) a b h = omega arith
+
+pub by-two : (k : ℕ) (w : Wr) → (k ≡ 0 → ⊥) → (k ≡ 1 → ⊥) → k ≤ 2 → shiftW (shiftW w) ≡ shiftsW k w
+unfolding shiftsW
+by-two k w a b h =
+    let e : k ≡ 2 = two k a b h in
+    rw e
+
+-- the second turn's needs
+pub second : (w w′ : Wr) → w′ ≡ shiftW w → Turning 2 w → w .st .rng ≡ 1 → Turning 1 w′ × (w′ .st .rng ≤ 8388608)
+unfolding shiftW
+second w w′ e r h =
+    let z : w .st .rng ≤ 8388608 = omega arith in
+    rw e (turning-step 1 w r z, omega arith)
+
+-- the turns of a close do not look at the range
+abbrev ranged : ℕ → Wr → Wr
+ranged r w = withRange w (outOf w) (w .st .rem) (w .st .ext) (w .st .val) r (w .st .total)
+
+shifts-any : (k r s : ℕ) (w : Wr) → ranged 0 (shiftsW k (ranged r w)) ≡ ranged 0 (shiftsW k (ranged s w))
+unfolding shiftsW shiftW
+shifts-any zero r s w = refl
+shifts-any (suc k) r s w = shifts-any k (r * 256) (s * 256) (shiftW w)
+
+-- ---- the gap, one byte at a time
+
+pub zeroed-step : (n a : ℕ) (l : List ℕ) → 0 < n → zeroed n a l ≡ zeroed (n - 1) (a + 1) (set l a 0)
+unfolding zeroed
+zeroed-step zero a l h = absurd (not-suc-le-zero h)
+zeroed-step (suc n) a l h = rw sub-one
+
+pub zeroed-done : (n a : ℕ) (l : List ℕ) → n ≤ 0 → l ≡ zeroed n a l
+unfolding zeroed
+zeroed-done zero a l h = refl
+zeroed-done (suc n) a l h = absurd (not-suc-le-zero h)
+
+-- ---- the last byte, by its cases
+
+module _ (window used spare : ℕ) (o : Out) where
+  pub fin-error : o .sink .error ≡ true → o ≡ finished window used spare o
+  unfolding finished
+  fin-error e = simp e
+
+  module _ (l : List ℕ) (e : o .sink .error ≡ false) where
+    pub fin-none : used ≡ 0 → l ≡ cleared o → out (o .sink) l ≡ finished window used spare o
+    unfolding finished
+    fin-none u z = simp (e, eq-eqb _ _ u) (ap (out (o .sink)) z)
+
+    pub fin-full : (used ≡ 0 → ⊥) → o .sink .storage ≤ o .sink .ends → l ≡ cleared o → out (marked (o .sink)) l ≡ finished window used spare o
+    unfolding finished
+    fin-full u h z = simp (e, ne-eqb _ _ u, le-leb _ _ h) (ap (out (marked (o .sink))) z)
+
+    pub fin-bust : {l1 : List ℕ} {u : ℕ} → (used ≡ 0 → ⊥) → o .sink .ends < o .sink .storage → busts (o .sink) used spare ≡ true
+        → l1 ≡ cleared o → u ≡ 2 ^ spare
+        → l ≡ joined (o .sink .storage - o .sink .ends - 1) l1 (window % u % 256)
+        → out (marked (o .sink)) l ≡ finished window used spare o
+    unfolding finished
+    fin-bust {l1} {u} n h b z y x =
+        let e2 : l ≡ joined (o .sink .storage - o .sink .ends - 1) (cleared o) (window % 2 ^ spare % 256) = x ∙ rw (z, y) in
+        simp (e, ne-eqb _ _ n, lt-leb _ _ h, b) (ap (out (marked (o .sink))) e2)
+
+    pub fin-join : {l1 : List ℕ} → (used ≡ 0 → ⊥) → o .sink .ends < o .sink .storage → busts (o .sink) used spare ≡ false
+        → l1 ≡ cleared o
+        → l ≡ joined (o .sink .storage - o .sink .ends - 1) l1 (window % 256)
+        → out (o .sink) l ≡ finished window used spare o
+    unfolding finished
+    fin-join {l1} n h b z x =
+        let e2 : l ≡ joined (o .sink .storage - o .sink .ends - 1) (cleared o) (window % 256) = x ∙ rw z in
+        simp (e, ne-eqb _ _ n, lt-leb _ _ h, b) (ap (out (o .sink)) e2)
+
+-- ---- all of it
+
+shifts-fit : (k : ℕ) (w : Wr) → Fit (outOf w) → Fit (outOf (shiftsW k w))
+unfolding shiftsW shiftW
+shifts-fit zero w f = f
+shifts-fit (suc k) w f = shifts-fit k (shiftW w) (emit-fit _ _ f)
+
+shifts-rem : (k : ℕ) (w : Wr) → w .st .rem ≤ 256 → shiftsW k w .st .rem ≤ 256
+unfolding shiftsW shiftW
+shifts-rem zero w h = h
+shifts-rem (suc k) w h = shifts-rem k (shiftW w) (held-le (w .st .rem) (w .st .val / 8388608) h)
+
+pub close-fit : (w v : Wr) (k end : ℕ) → Ready 1 w → v ≡ shiftsW k (ending end 1 w) → Fit (outOf v) × (v .st .rem ≤ 256)
+close-fit w v k end r e =
+    rw e (shifts-fit k (ending end 1 w) (r .sound .fit), shifts-rem k (ending end 1 w) (r .sound .rem))
+
+-- the state that a close leaves
+abbrev pub closedBy : Wr → Out → ℕ → Wr
+closedBy w o rem =
+    wr
+    (record {
+      sink = o .sink;
+      rem = rem;
+      ext = 0;
+      val = w .st .val;
+      rng = w .st .rng;
+      total = w .st .total;
+      window = w .st .window;
+      waiting = w .st .waiting;
+      closed = true;
+    })
+    (o .bytes)
+
+-- the parts of a close that the last bytes decide
+restOf : Wr → Wr → ℕ → Wr
+restOf w v bits =
+    closedBy w
+    (finished (leftOf (w .st .waiting / 8) (w .st .window)) (w .st .waiting % 8) (8 * turnsOf bits - bits)
+    (flushed (w .st .waiting / 8) (w .st .window) (emit (settled (v .st .rem) (v .st .ext) 0) (outOf v))))
+    (restRem (v .st .rem) (v .st .ext))
+
+rest-any : (w v v′ : Wr) (bits : ℕ) → ranged 0 v ≡ ranged 0 v′ → restOf w v bits ≡ restOf w v′ bits
+unfolding restOf
+rest-any w v v′ bits e = ap (λ (x : Wr). restOf w x bits) e
+
+pub close-is : (w v : Wr) (bits end : ℕ) (o2 o3 o4 : Out) (window used rem : ℕ)
+    → bits ≡ tailBits (w .st .val) (w .st .rng)
+    → end ≡ tailEnd (w .st .val) (w .st .rng)
+    → v ≡ shiftsW (turnsOf bits) (ending end 1 w)
+    → o2 ≡ emit (settled (v .st .rem) (v .st .ext) 0) (outOf v)
+    → rem ≡ restRem (v .st .rem) (v .st .ext)
+    → o3 ≡ flushed (w .st .waiting / 8) (w .st .window) o2
+    → window ≡ leftOf (w .st .waiting / 8) (w .st .window)
+    → used ≡ w .st .waiting % 8
+    → o4 ≡ finished window used (8 * turnsOf bits - bits) o3
+    → closedBy w o4 rem ≡ closeW w
+unfolding closeW closeOut endW restOf
+close-is w v bits end o2 o3 o4 window used rem p1 p2 p3 p4 p5 p6 p7 p8 p9 =
+    let a : closedBy w o4 rem ≡ restOf w v bits = rw (p9, p6, p4, p5, p7, p8) in
+    let b : restOf w v bits ≡ restOf w (shiftsW (turnsOf bits) (ending end 1 w)) bits = ap (λ (x : Wr). restOf w x bits) p3 in
+    let c = rest-any w (shiftsW (turnsOf bits) (ending end 1 w)) (shiftsW (turnsOf bits) (ending end (2 ^ (31 - bits)) w)) bits
+    (shifts-any (turnsOf bits) 1 (2 ^ (31 - bits)) (ending end 1 w)) in
+    a ∙ b ∙ c ∙ rw (p1, p2)

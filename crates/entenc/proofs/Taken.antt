@@ -1,0 +1,186 @@
+-- What number 0 tells of a call, and a checked call's two answers. Assumes nothing.
+use Prim.Native.Nat.{ℕ, zero, suc, _+_, _^_, _<_, _≤_}
+use mathlib.Core.Path.{_≡_, refl, ap, sym, _∙_}
+use mathlib.Core.Bool.{Bool, true, _&&_, and-eq-true-iff}
+use mathlib.Core.List.{List}
+use native.Mathlib.Nat.{suc-ne-zero}
+use native.Mathlib.Omega.{arith}
+use lib.ListN.{length}
+use lib.Dec.{ltb, leb}
+use borrow.Author.Tests.{ltb-true, leb-true, eqb-true, lt-ltb, le-leb}
+use Rattle.entcode.specs.Counts.{tellOk}
+use Rattle.entcode.specs.Sym.{Shape, falls, lengthOk, shapeOk, listOk, valueOk}
+use Rattle.entcode.specs.Sym.Shape.{bit, table, uint, raw}
+use Rattle.entcode.proofs.Rule.{Counts, counts, counts-ok}
+use Rattle.entcode.proofs.Refusals.{passed}
+use Rattle.entenc.specs.declared.Writer.{Writer}
+use Rattle.entenc.specs.declared.Answer.the-variants.{Next, Refused}
+use Rattle.entenc.specs.Write.{Wr}
+use Rattle.entenc.specs.Rule.{writerOk, isLive, writeRefusal, refusalW, refusalClose}
+use Rattle.entenc.specs.Answer.{after, answer}
+use Rattle.entenc.specs.Ready.{Sound, Ready}
+
+-- ---- the rule of a writer, as facts
+
+pub record Ruled (w : Writer) : Type 0 where
+  pub counts : Counts (w .sink .storage) (w .rng) (w .waiting) (w .total)
+  pub room : w .sink .offs + w .sink .ends ≤ w .sink .storage
+  pub top : w .val + w .rng < 4294967296
+  pub rem : w .rem ≤ 256
+  pub ext : w .ext ≤ 65535
+
+pub ruled : (w : Writer) → writerOk w ≡ true → Ruled w
+unfolding writerOk
+ruled w h =
+    let a = and-eq-true-iff _ _ .0 h in
+    let b = and-eq-true-iff _ _ .0 (a .0) in
+    let c = and-eq-true-iff _ _ .0 (b .0) in
+    let d = and-eq-true-iff _ _ .0 (c .0) in
+    record {
+      counts = counts _ _ _ _ (d .0);
+      room = leb-true (w .sink .offs + w .sink .ends) (w .sink .storage) (d .1);
+      top = ltb-true (w .val + w .rng) 4294967296 (c .1);
+      rem = leb-true (w .rem) 256 (b .1);
+      ext = leb-true (w .ext) 65535 (a .1);
+    }
+
+pub ruled-ok : (w : Writer) → Ruled w → writerOk w ≡ true
+unfolding writerOk
+ruled-ok w h =
+    simp (
+      counts-ok (w .sink .storage) (w .rng) (w .waiting) (w .total) (h .counts),
+      le-leb (w .sink .offs + w .sink .ends) (w .sink .storage) (h .room),
+      lt-ltb (w .val + w .rng) 4294967296 (h .top),
+      le-leb (w .rem) 256 (h .rem),
+      le-leb (w .ext) 65535 (h .ext),
+    )
+
+-- ---- an accepted state has what the workers need
+
+pub sound-of : (w : Wr) → writerOk (w .st) ≡ true → w .st .sink .storage ≡ length (w .bytes) → Sound w
+sound-of w h e =
+    let r = ruled (w .st) h in
+    record {
+      fit = record { len = e; room = r .room };
+      storage = r .counts .room;
+      low = r .counts .low;
+      most = r .counts .top;
+      top = r .top;
+      rem = r .rem;
+      waiting = r .counts .waits;
+    }
+
+-- and for 15,000 symbols
+pub ready-of : (k : ℕ) (w : Wr) → k ≤ 15000 → writerOk (w .st) ≡ true → w .st .sink .storage ≡ length (w .bytes) → Ready k w
+ready-of k w m h e =
+    let r = ruled (w .st) h in
+    record { sound = sound-of w h e; ext = omega (arith, r .ext); total = omega (arith, r .counts .most) }
+
+-- ---- number 0
+
+pub record Taken (h : Shape) (v : ℕ) (w : Wr) : Type 0 where
+  pub len : w .st .sink .storage ≡ length (w .bytes)
+  pub rule : writerOk (w .st) ≡ true
+  pub lengths : lengthOk h ≡ true
+  pub shape : shapeOk h ≡ true
+  pub value : valueOk h v ≡ true
+  pub lists : listOk h ≡ true
+  pub live : isLive (w .st) ≡ true
+  pub told : tellOk (w .st .sink .storage) (w .st .total) (w .st .rng) ≡ true
+
+pub taken : (h : Shape) (v : ℕ) (w : Wr) → refusalW h v w ≡ 0 → Taken h v w
+unfolding refusalW writeRefusal
+taken h v w z =
+    let p = passed _ _ _ _ _ _ z in
+    let a = and-eq-true-iff _ _ .0 (p .two) in
+    let b = and-eq-true-iff _ _ .0 (p .one) in
+    let c = and-eq-true-iff _ _ .0 (b .1) in
+    record {
+      len = eqb-true (w .st .sink .storage) (length (w .bytes)) (a .0);
+      rule = b .0;
+      lengths = a .1;
+      shape = c .0;
+      value = c .1;
+      lists = p .three;
+      live = p .twelve;
+      told = p .four;
+    }
+
+pub close-taken : (w : Wr) → refusalClose w ≡ 0 → (writerOk (w .st) ≡ true) × (w .st .sink .storage ≡ length (w .bytes))
+unfolding refusalClose
+close-taken w z =
+    let p = passed _ _ _ _ _ _ z in
+    (p .one, eqb-true (w .st .sink .storage) (length (w .bytes)) (p .two))
+
+-- ---- a gate that a test of its own goes into
+
+pub table-gate : (n v : ℕ) (l : List ℕ) (k : ℕ) (w : Wr) (t : Bool)
+    → n ≡ writeRefusal (length (w .bytes)) (w .st) (ltb 0 (length l)) (leb 1 k && leb k 8 && ltb v (length l)) t 0
+    → t ≡ falls (2 ^ k) l → n ≡ refusalW (table l k) v w
+unfolding refusalW lengthOk shapeOk valueOk listOk
+table-gate n v l k w t e f = e ∙ rw f
+
+pub raw-gate : (n v b : ℕ) (w : Wr) (t : Bool)
+    → n ≡ writeRefusal (length (w .bytes)) (w .st) true (leb 1 b && leb b 25 && t) true 0
+    → t ≡ ltb v (2 ^ b) → n ≡ refusalW (raw b) v w
+unfolding refusalW lengthOk shapeOk valueOk listOk
+raw-gate n v b w t e f = e ∙ rw f
+
+-- ---- what each worker needs, n being what the gate gave
+
+module _ (n v : ℕ) (w : Wr) where
+  ready-by : (h : Shape) → Taken h v w → Ready 1 w
+  ready-by h t = ready-of 1 w (omega arith) (t .rule) (t .len)
+
+  pub bit-needs : (k : ℕ) → n ≡ refusalW (bit k) v w → n ≡ 0 → Ready 1 w × (1 ≤ k) × (k ≤ 15)
+  unfolding shapeOk
+  bit-needs k e z =
+      let t = taken (bit k) v w (sym e ∙ z) in
+      let a = and-eq-true-iff (leb 1 k) (leb k 15) .0 (t .shape) in
+      (ready-by (bit k) t, leb-true 1 k (a .0), leb-true k 15 (a .1))
+
+  pub table-needs : (l : List ℕ) (k : ℕ) → n ≡ refusalW (table l k) v w → n ≡ 0
+      → Ready 1 w × (v < length l) × (falls (2 ^ k) l ≡ true) × (k ≤ 8)
+  unfolding shapeOk valueOk listOk
+  table-needs l k e z =
+      let t = taken (table l k) v w (sym e ∙ z) in
+      let a = and-eq-true-iff (leb 1 k) (leb k 8) .0 (t .shape) in
+      (ready-by (table l k) t, ltb-true v (length l) (t .value), t .lists, leb-true k 8 (a .1))
+
+  pub uint-needs : (ft : ℕ) → n ≡ refusalW (uint ft) v w → n ≡ 0 → Ready 1 w × (2 ≤ ft) × (v < ft)
+  unfolding shapeOk valueOk
+  uint-needs ft e z =
+      let t = taken (uint ft) v w (sym e ∙ z) in
+      let a = and-eq-true-iff (leb 2 ft) (leb ft 4294967295) .0 (t .shape) in
+      (ready-by (uint ft) t, leb-true 2 ft (a .0), ltb-true v ft (t .value))
+
+  pub raw-needs : (b : ℕ) → n ≡ refusalW (raw b) v w → n ≡ 0 → Ready 0 w × (1 ≤ b) × (b ≤ 25) × (v < 2 ^ b)
+  unfolding shapeOk valueOk
+  raw-needs b e z =
+      let t = taken (raw b) v w (sym e ∙ z) in
+      let a = and-eq-true-iff (leb 1 b) (leb b 25) .0 (t .shape) in
+      (ready-of 0 w (omega arith) (t .rule) (t .len), leb-true 1 b (a .0), leb-true b 25 (a .1), ltb-true v (2 ^ b) (t .value))
+
+pub close-needs : (n : ℕ) (w : Wr) → n ≡ refusalClose w → n ≡ 0 → Ready 1 w
+close-needs n w e z =
+    let t = close-taken w (sym e ∙ z) in
+    ready-of 1 w (omega arith) (t .0) (t .1)
+
+-- ---- the two answers, n being what the gate gave
+
+next-is : (k : ℕ) (w v : Wr) → k ≡ 0 → after (Next (v .st)) (v .bytes) ≡ answer k w v
+unfolding answer
+next-is zero w v h = refl
+next-is (suc k) w v h = absurd (suc-ne-zero k h)
+
+no-is : (k : ℕ) (w v : Wr) → (k ≡ 0 → ⊥) → after (Refused k) (w .bytes) ≡ answer k w v
+unfolding answer
+no-is zero w v h = absurd (h refl)
+no-is (suc k) w v h = refl
+
+module _ (n k : ℕ) (w v : Wr) (e : n ≡ k) where
+  pub say-next : (w′ : Wr) → n ≡ 0 → w′ ≡ v → after (Next (w′ .st)) (w′ .bytes) ≡ answer k w v
+  say-next w′ z h = rw h (next-is k w v (sym e ∙ z))
+
+  pub say-no : (n ≡ 0 → ⊥) → after (Refused n) (w .bytes) ≡ answer k w v
+  say-no z = no-is n w v z ∙ ap (λ (i : ℕ). answer i w v) e

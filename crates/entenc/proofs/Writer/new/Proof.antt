@@ -1,0 +1,17 @@
+-- `Writer::new` meets its contract. Assumes nothing.
+use borrow.Author.Needs.{needs}
+use borrow.Author.Tests.{le-leb, lt-leb}
+use Rattle.entenc.proofs.Writer.new.Statement.{statement}
+use Rattle.entenc.proofs.Writer.new.Tie as tie
+
+cast-t7 : tie.Need-cast-t7
+cast-t7 c = search needs
+
+returns : tie.Need-returns
+returns c = simp (le-leb _ _ (c .if1 .taken))
+
+returns-2 : tie.Need-returns-2
+returns-2 c = simp (lt-leb _ _ (c .if1 .left))
+
+pub new-spec : {M : Type 1} → statement M
+new-spec = tie.close (tie.spec cast-t7 returns returns-2)

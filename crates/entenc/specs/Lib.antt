@@ -1,0 +1,7 @@
+pub mod Out
+pub mod Write
+pub mod Close
+pub mod Symbols
+pub mod Rule
+pub mod Answer
+pub mod Ready

@@ -1,0 +1,36 @@
+-- What a writer that is handed in must meet, and what a write or a close is refused with. Document 01, "When the answer is no".
+use Prim.Native.Nat.{ℕ, _+_}
+use mathlib.Core.Bool.{Bool, true, not, _&&_}
+use lib.ListN.{length}
+use lib.Dec.{ltb, leb, eqb}
+use Rattle.entcode.specs.Counts.{countsOk, tellOk}
+use Rattle.entcode.specs.Refusal.{refusal}
+use Rattle.entcode.specs.Sym.{Shape, lengthOk, shapeOk, listOk, valueOk}
+use Rattle.entenc.specs.declared.Writer.{Writer}
+use Rattle.entenc.specs.Write.{Wr}
+
+-- the rule of a writer: the counts, its two places together at most the storage, its value plus its range below 2^32, the held byte
+-- 0..255 or none, the held run 0..65,535
+unfoldable pub writerOk : Writer → Bool
+writerOk w =
+    countsOk (w .sink .storage) (w .rng) (w .waiting) (w .total) && leb (w .sink .offs + w .sink .ends) (w .sink .storage)
+    && ltb (w .val + w .rng) 4294967296 && leb (w .rem) 256 && leb (w .ext) 65535
+
+-- nothing may be written after close
+abbrev pub isLive : Writer → Bool
+isLive w = not (w .closed)
+
+-- The refusal of a call that can write symbols, 0 for none. n bytes are lent. lengths, numbers, lists and own are the call's own: its
+-- other lengths, its numbers, its lists, its number from 5 to 11
+unfoldable pub writeRefusal : ℕ → Writer → Bool → Bool → Bool → ℕ → ℕ
+writeRefusal n w lengths numbers lists own =
+    refusal (eqb (w .sink .storage) n && lengths) (writerOk w && numbers) lists own (isLive w)
+    (tellOk (w .sink .storage) (w .total) (w .rng))
+
+-- the refusal of writing one symbol of a kind
+unfoldable pub refusalW : Shape → ℕ → Wr → ℕ
+refusalW h v w = writeRefusal (length (w .bytes)) (w .st) (lengthOk h) (shapeOk h && valueOk h v) (listOk h) 0
+
+-- the refusal of a close, which is never 4
+unfoldable pub refusalClose : Wr → ℕ
+refusalClose w = refusal (eqb (w .st .sink .storage) (length (w .bytes))) (writerOk (w .st)) true 0 (isLive (w .st)) true

@@ -1,0 +1,62 @@
+// What a write or a close is refused with: document 01, "When the answer is no".
+ghost use mathlib.Core.Path.{_≡_};
+ghost use mathlib.Core.Bool.{true};
+ghost use Prim.Native.Nat.{_^_};
+ghost use lib.Dec.{ltb, eqb};
+ghost use Rattle.entcode.specs.Refusal.{refusal};
+ghost use Rattle.entenc.specs.Rule.{writerOk, isLive, writeRefusal};
+use super::Writer;
+
+impl Writer {
+    // Does the state keep the rule of a writer? Any numbers are answered.
+    pub fn sound(self) -> bool
+        ensures { λ r. ⌜ r ≡ writerOk self ⌝ }
+    {
+        let s = self.sink;
+        let places = (s.offs as u64) + (s.ends as u64);
+        let top = (self.val as u64) + (self.rng as u64);
+        entcode::counts_ok(s.storage, self.rng, self.waiting, self.total)
+            & (places <= (s.storage as u64))
+            & (top < 4294967296)
+            & (self.rem <= 256)
+            & (self.ext <= 65535)
+    }
+
+    // The number of the refusal of a call that can write symbols, 0 for none. n bytes are lent; lengths, numbers, lists and own are what
+    // the call found of its own.
+    pub fn refusal(self, n: usize, lengths: bool, numbers: bool, lists: bool, own: u32) -> u32
+        ensures { λ r. ⌜ r ≡ writeRefusal n self lengths numbers lists own ⌝ }
+    {
+        let s = self.sink;
+        let storage = s.storage as usize;
+        let live = !self.closed;
+        let told = entcode::tell_ok(s.storage, self.total, self.rng);
+        let sound = self.sound();
+        entcode::refusal_of(
+            (storage == n) & lengths,
+            sound & numbers,
+            lists,
+            own,
+            live,
+            told,
+        )
+    }
+
+    // The number of the refusal of a close, 0 for none.
+    pub fn refusal_close(self, n: usize) -> u32
+        ensures { λ r. ⌜ r ≡ refusal (eqb (self .sink .storage) n) (writerOk self) true 0 (isLive self) true ⌝ }
+    {
+        let s = self.sink;
+        let storage = s.storage as usize;
+        let live = !self.closed;
+        let sound = self.sound();
+        entcode::refusal_of(storage == n, sound, true, 0, live, true)
+    }
+}
+
+// Is v below 2^n? Every number of 32 bits is, from n 32 on.
+pub fn below_pow2(v: u32, n: u32) -> bool
+    ensures { λ r. ⌜ r ≡ ltb v (2 ^ n) ⌝ }
+{
+    if n < 32 { v < (1 << n) } else { true }
+}

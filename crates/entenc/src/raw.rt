@@ -1,0 +1,86 @@
+// Raw bits, from the end of the storage backwards: RFC 6716, section 5.1.3.
+ghost use mathlib.Core.Path.{_≡_};
+ghost use mathlib.Core.List.{[]};
+ghost use Prim.Native.Nat.{_+_, _/_, _%_, _^_, _<_, _≤_};
+ghost use Rattle.entenc.specs.Out.{out, putEnd, flushed, leftOf};
+ghost use Rattle.entenc.specs.Write.{wr, toppedW, bitsW};
+ghost use Rattle.entenc.specs.Ready.{Fit, Ready};
+use super::Sink;
+use super::Writer;
+
+// One byte at the end; where the storage is full, the error mark.
+fn put_end(s: Sink, buf: &mut [u8], b: u8) -> Sink
+    requires { ⌜ Fit (out s (now buf)) ⌝ }
+    ensures { λ r. ⌜ out r (now (buf .exit)) ≡ putEnd b (out s (now (buf .entry))) ⌝ }
+{
+    let mut t = s;
+    if t.offs + t.ends < t.storage {
+        t.ends = t.ends + 1;
+        let at = (t.storage - t.ends) as usize;
+        buf[at] = b;
+        t
+    } else {
+        t.error = true;
+        t
+    }
+}
+
+// A sink, with what is left of a window and how many bits of it wait.
+pub struct Flushed {
+    pub sink: Sink,
+    pub window: u32,
+    pub waiting: u32,
+}
+
+// The whole bytes of the window go out.
+pub fn flush(s: Sink, buf: &mut [u8], window: u32, waiting: u32) -> Flushed
+    requires { ⌜ Fit (out s (now buf)) ⌝ }
+    ensures { λ r.
+        ⌜ (out (r .sink) (now (buf .exit)) ≡ flushed (waiting / 8) window (out s (now (buf .entry))))
+        × (r .window ≡ leftOf (waiting / 8) window)
+        × (r .waiting ≡ waiting % 8) ⌝ }
+{
+    let mut t = s;
+    let mut w = window;
+    let mut n = waiting;
+    while 8 <= n {
+        t = put_end(t, buf, (w % 256) as u8);
+        w = w / 256;
+        n -= 8;
+    }
+    Flushed {
+        sink: t,
+        window: w,
+        waiting: n,
+    }
+}
+
+impl Writer {
+    // n bits of v on top of those that wait. No byte changes, so that any bytes do.
+    fn topped(mut self, v: u32, n: u32) -> Writer
+        requires { ⌜ (self .waiting + n ≤ 32) × (1 ≤ n) × (v < 2 ^ n) × (self .total ≤ 1048576) ⌝ }
+        ensures { λ r. ⌜ r ≡ toppedW n v (wr self []) .st ⌝ }
+    {
+        self.window = self.window | (v << self.waiting);
+        self.waiting = self.waiting + n;
+        self.total = self.total + n;
+        self
+    }
+
+    // n raw bits of v.
+    pub fn put_bits(mut self, buf: &mut [u8], v: u32, n: u32) -> Writer
+        requires { ⌜ Ready 0 (wr self (now buf)) × (1 ≤ n) × (n ≤ 25) × (v < 2 ^ n) ⌝ }
+        ensures { λ r. ⌜ wr r (now (buf .exit)) ≡ bitsW n v (wr self (now (buf .entry))) ⌝ }
+    {
+        if self.waiting + n <= 32 {
+            return self.topped(v, n);
+        }
+        let s = self.sink;
+        let f = flush(s, buf, self.window, self.waiting);
+        let t = f.sink;
+        self.sink = t;
+        self.window = f.window;
+        self.waiting = f.waiting;
+        self.topped(v, n)
+    }
+}
