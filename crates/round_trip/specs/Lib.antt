@@ -1,0 +1,4 @@
+pub mod Row
+pub mod Lawful
+pub mod Talk
+pub mod Trip
