@@ -1,0 +1,128 @@
+-- Laws of the way back from a number to its vector. Assumes nothing.
+use Prim.Native.Nat.{ℕ, zero, suc, _+_, _-_, _≤_, _<_}
+use mathlib.Core.Path.{_≡_, refl, sym, ap, _∙_}
+use mathlib.Core.Bool.{Bool, cond}
+use mathlib.Core.List.{List, [], _∷_, _++_, append-assoc, append-nil}
+use native.Mathlib.Nat.{le-refl, le-trans, not-suc-le-zero}
+use native.Mathlib.Numerals.{add-one}
+use native.Mathlib.Omega.{arith}
+use lib.Dec.{leb}
+use lib.IntN.{ℤ, natAbs}
+use lib.ListN.{length, take, drop, set, take-append-drop}
+use lib.Seq.{take-suc-set, take-at}
+use borrow.Author.Tests.{le-leb, lt-leb, leb-true, leb-false}
+use Rattle.laws.specs.Signs.{valueOf}
+use Rattle.laws.proofs.Tests.{split-on, cond-le}
+use Rattle.laws.proofs.Signs.{size-value}
+use Rattle.cwrs.specs.Count.{U}
+use Rattle.cwrs.specs.Word.{pulses, headNeg, signIndex, reach, tailPulses, headPulse, tailIndex, word}
+use Rattle.cwrs.proofs.Recurrence.{U-s0}
+use Rattle.cwrs.proofs.Words.{pulses-nil, pulses-cons}
+
+-- ---- the greatest j up to k with U n j at most i
+
+pub reach-stop : (n j i : ℕ) → U n j ≤ i → reach n j i ≡ j
+unfolding reach
+reach-stop n zero i h = refl
+reach-stop n (suc j) i h = rw (le-leb (U n (suc j)) i h)
+
+pub reach-down : (n j i : ℕ) → 1 ≤ n → i < U n j → (1 ≤ j) × (reach n j i ≡ reach n (j - 1) i)
+unfolding reach
+reach-down zero j i g h = absurd (not-suc-le-zero g)
+reach-down (suc n) zero i g h = absurd (omega (arith, U-s0 n))
+reach-down (suc n) (suc j) i g h =
+    let e : suc j - 1 ≡ j = omega arith in
+    (omega arith, simp (lt-leb (U (suc n) (suc j)) i h, e))
+
+pub reach-le : (n k i : ℕ) → reach n k i ≤ k
+unfolding reach
+reach-le n zero i = le-refl 0
+reach-le n (suc k) i = cond-le (leb (U n (suc k)) i) (λ e. le-refl (suc k)) (λ e. omega (arith, reach-le n k i))
+
+-- for n from 1 on: the count there is at most i
+pub reach-ok : (n k i : ℕ) → 1 ≤ n → U n (reach n k i) ≤ i
+unfolding reach
+reach-ok zero k i g = absurd (not-suc-le-zero g)
+reach-ok (suc n) zero i g = omega (arith, U-s0 n)
+reach-ok (suc n) (suc k) i g =
+    split-on (leb (U (suc n) (suc k)) i) (λ e. simp e (leb-true (U (suc n) (suc k)) i e)) (λ e. simp e (reach-ok (suc n) k i g))
+
+-- and the next one is above it
+pub reach-next : (n k i : ℕ) → i < U n (suc k) → i < U n (suc (reach n k i))
+unfolding reach
+reach-next n zero i h = h
+reach-next n (suc k) i h =
+    split-on (leb (U n (suc k)) i) (λ e. simp e h) (λ e. simp e (reach-next n k i (leb-false (U n (suc k)) i e)))
+
+-- ---- the first place, as the code finds it: p of the vectors stand before those with a negative first place
+
+pub record First (n k i : ℕ) (b : Bool) (q j : ℕ) : Type 0 where
+  pub sign : b ≡ headNeg n k i
+  pub number : q ≡ signIndex n k i
+  pub left : j ≡ tailPulses n k i
+  pub value : valueOf b (k - j) ≡ headPulse n k i
+  pub rest : q - U n j ≡ tailIndex n k i
+
+pub first : (n k i : ℕ) {p q j : ℕ} → p ≡ U n (k + 1) → q ≡ cond (leb p i) (i - p) i → j ≡ reach n k q → First n k i (leb p i) q j
+unfolding headNeg signIndex tailPulses headPulse tailIndex
+first n k i {p} {q} {j} ep eq ej =
+    let s : p ≡ U n (suc k) = ep ∙ ap (U n) (add-one k) in
+    let a : leb p i ≡ headNeg n k i = ap (λ (x : ℕ). leb x i) s in
+    let b : q ≡ signIndex n k i = eq ∙ ap (λ (x : ℕ). cond (leb x i) (i - x) i) s in
+    let c : j ≡ tailPulses n k i = ej ∙ ap (reach n k) b in
+    record { sign = a; number = b; left = c; value = rw (a, c); rest = rw (b, c) }
+
+pub tailPulses-le : (n k i : ℕ) → tailPulses n k i ≤ k
+unfolding tailPulses
+tailPulses-le n k i = reach-le n k (signIndex n k i)
+
+-- ---- the word, place by place
+
+pub word-zero : (k i : ℕ) → word 0 k i ≡ []
+unfolding word
+word-zero k i = refl
+
+pub word-suc : (n k i : ℕ) → word (suc n) k i ≡ headPulse (suc n) k i ∷ word n (tailPulses (suc n) k i) (tailIndex (suc n) k i)
+unfolding word
+word-suc n k i = refl
+
+pub word-length : (n k i : ℕ) → length (word n k i) ≡ n
+word-length zero k i = rw word-zero
+word-length (suc n) k i = rw word-suc (ap suc (word-length n (tailPulses (suc n) k i) (tailIndex (suc n) k i)))
+
+pub word-first : (n k i : ℕ) (l : List ℤ) → take n (word n k i ++ l) ≡ word n k i
+word-first n k i l = take-at (word n k i) l n (word-length n k i)
+
+pub headPulse-size : (n k i : ℕ) → natAbs (headPulse n k i) ≡ k - tailPulses n k i
+unfolding headPulse
+headPulse-size n k i = size-value (headNeg n k i) (k - tailPulses n k i)
+
+-- whatever the number, there are never more than k pulses
+pub word-pulses-le : (n k i : ℕ) → pulses (word n k i) ≤ k
+word-pulses-le zero k i = rw (word-zero, pulses-nil) (omega arith)
+word-pulses-le (suc n) k i =
+    rw (word-suc, pulses-cons)
+    (omega (
+      arith,
+      headPulse-size (suc n) k i,
+      tailPulses-le (suc n) k i,
+      word-pulses-le n (tailPulses (suc n) k i) (tailIndex (suc n) k i),
+    ))
+
+pub first-pulses-le : (n k i m : ℕ) (l : List ℤ) {y : List ℤ} → y ≡ word n k i ++ l → k ≤ m → pulses (take n y) ≤ m
+first-pulses-le n k i m l e h = rw (e, word-first) (le-trans (word-pulses-le n k i) h)
+
+-- ---- a turn of the decoder's loop: y is written up to j, and what is left to write are n - j places with k pulses and the number i
+
+pub written : (y W : List ℤ) (j n k i : ℕ) (v : ℤ) (k′ i′ : ℕ) → j < n → j < length y → v ≡ headPulse (n - j) k i → k′ ≡ tailPulses (n - j) k i
+    → i′ ≡ tailIndex (n - j) k i → take j y ++ word (n - j) k i ≡ W → take (j + 1) (set y j v) ++ word (n - (j + 1)) k′ i′ ≡ W
+written y W j n k i v k′ i′ h l ev ek ei w =
+    let e : n - j ≡ suc (n - (j + 1)) = omega arith in
+    let s : word (n - j) k i ≡ v ∷ word (n - (j + 1)) k′ i′ = rw (ev, ek, ei, e) (word-suc (n - (j + 1)) k i) in
+    rw (add-one, take-suc-set y j v l, append-assoc, ← add-one) (ap (λ (t : List ℤ). take j y ++ t) (sym s) ∙ w)
+
+pub done : (y y₀ W : List ℤ) (j n k i : ℕ) → j ≡ n → take j y ++ word (n - j) k i ≡ W → drop j y ≡ drop j y₀ → y ≡ W ++ drop n y₀
+done y y₀ W j n k i e w d =
+    let z : n - j ≡ 0 = omega arith in
+    let f : take j y ≡ W = sym (append-nil (take j y)) ∙ rw (z, word-zero) at w in
+    sym (take-append-drop j y) ∙ rw (f, d, e)

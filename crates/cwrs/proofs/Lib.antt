@@ -1,0 +1,8 @@
+pub mod Recurrence
+pub mod Table
+pub mod Words
+pub mod Back
+pub mod Inverse
+pub mod Refusing
+pub mod Answers
+pub mod Figures

@@ -1,0 +1,93 @@
+-- What the public calls answer, by document 01's number of the refusal and the values, and what the lent places then hold.
+use Prim.Native.Nat.{ℕ, zero, suc}
+use mathlib.Core.Bool.{Bool, true, cond, _&&_}
+use mathlib.Core.List.{List, _++_}
+use lib.IntN.{ℤ}
+use lib.ListN.{length, take, drop}
+use lib.Dec.{ltb, leb, eqb}
+use Rattle.entcode.specs.Sym.Shape.{uint}
+use Rattle.entdec.specs.declared.Reader.{Reader}
+use Rattle.entdec.specs.declared.Read.{Read}
+use Rattle.entdec.specs.Rule.{readRefusal}
+use Rattle.entdec.specs.Symbols.{readSym}
+use Rattle.entenc.specs.Write.{Wr}
+use Rattle.entenc.specs.Rule.{writeRefusal}
+use Rattle.entenc.specs.Symbols.{writeSym}
+use Rattle.entenc.specs.Answer as wrote
+use Rattle.cwrs.specs.Count.{Vn}
+use Rattle.cwrs.specs.Word.{pulses, energy, index, word}
+use Rattle.cwrs.specs.declared.Found.{Found}
+use Rattle.cwrs.specs.declared.Decoded.{Decoded}
+use Rattle.cwrs.specs.declared.Decoded.the-variants.{Got, Refused}
+
+-- ---- the refusals that are these calls' own
+
+-- N 2..176 and K 1..128 (1)
+abbrev pub inDomain : ℕ → ℕ → Bool
+inDomain n k = leb 2 n && leb n 176 && leb 1 k && leb k 128
+
+-- a pulse vector has room for 176 numbers (2)
+abbrev pub isRoom : List ℤ → Bool
+isRoom y = eqb (length y) 176
+
+-- reading: V(N,K) is below 2^32, or 7
+unfoldable pub ownRead : ℕ → ℕ → ℕ
+ownRead n k = cond (ltb (Vn n k) 4294967296) 0 7
+
+-- writing: 7 first, and then the first n places have k pulses, or 8
+unfoldable pub ownWrite : List ℤ → ℕ → ℕ → ℕ
+ownWrite y n k = cond (ltb (Vn n k) 4294967296) (cond (eqb (pulses (take n y)) k) 0 8) 7
+
+-- ---- reading
+
+-- the number read, below V(N,K)
+abbrev pub readIndex : ℕ → ℕ → List ℕ → Reader → Read
+readIndex n k s d = readSym (uint (Vn n k)) s d
+
+-- its vector
+abbrev pub readWord : ℕ → ℕ → List ℕ → Reader → List ℤ
+readWord n k s d = word n k (readIndex n k s d .value)
+
+-- the vector's energy, and the reader after it
+abbrev pub foundOf : ℕ → ℕ → List ℕ → Reader → Found
+foundOf n k s d = record { energy = energy (readWord n k s d); next = readIndex n k s d .next }
+
+-- the refusal of reading, 0 for none
+unfoldable pub refusalRead : ℕ → ℕ → List ℕ → Reader → List ℤ → ℕ
+refusalRead n k s d y = readRefusal (length s) d (isRoom y) (inDomain n k) true (ownRead n k)
+
+-- an answer, and the lent places after the call
+pub record Placed : Type 0 where
+  pub said : Decoded
+  pub places : List ℤ
+
+abbrev pub placed : Decoded → List ℤ → Placed
+placed r y = record { said = r; places = y }
+
+-- number 0: what was found, with its places; any other: that refusal, and the places as they were
+unfoldable pub answer : ℕ → Found → List ℤ → List ℤ → Placed
+answer zero f v y = placed (Got f) v
+answer (suc m) f v y = placed (Refused (suc m)) y
+
+-- a checked read: the vector stands in the first n places, and the others stay
+abbrev pub reading : ℕ → ℕ → List ℕ → Reader → List ℤ → Placed
+reading n k s d y = answer (refusalRead n k s d y) (foundOf n k s d) (readWord n k s d ++ drop n y) y
+
+-- document 01's number of an answer, 0 where it is no refusal
+abbrev pub numberOf : Decoded → ℕ
+numberOf (Got f) = 0
+numberOf (Refused m) = m
+
+-- ---- writing
+
+-- the number of the first n places, as one below V(N,K)
+abbrev pub writeWord : ℕ → ℕ → List ℤ → Wr → Wr
+writeWord n k y w = writeSym (uint (Vn n k)) (index (take n y)) w
+
+-- the refusal of writing, 0 for none
+unfoldable pub refusalWrite : ℕ → ℕ → List ℤ → Wr → ℕ
+refusalWrite n k y w = writeRefusal (length (w .bytes)) (w .st) (isRoom y) (inDomain n k) true (ownWrite y n k)
+
+-- a checked write
+abbrev pub writing : ℕ → ℕ → List ℤ → Wr → wrote.After
+writing n k y w = wrote.answer (refusalWrite n k y w) w (writeWord n k y w)
