@@ -1,0 +1,15 @@
+-- The laws of the allocation. Those to cite: Budget (closes, rest, looks, coded-in, answers-in), Follow (follow, replay), Trace (trace),
+-- SignedForms, Figures; for code Loops, Same, Bounds.
+pub mod Steps
+pub mod Follow
+pub mod Trace
+pub mod Rounds
+pub mod Within
+pub mod Bands
+pub mod Looks
+pub mod Budget
+pub mod SignedForms
+pub mod Loops
+pub mod Same
+pub mod Bounds
+pub mod Figures

@@ -1,0 +1,18 @@
+-- Where a frame's bits went.
+use Prim.Native.Nat.{ℕ, _+_, _-_, _*_}
+use mathlib.Core.Bool.{Bool, cond}
+use mathlib.Core.List.{List, [], _∷_}
+use Rattle.laws.specs.Places.{sumOf}
+use Rattle.rate_def.specs.Asked.{In, Out}
+
+-- how many of the skip flags said go on
+unfoldable pub goOns : List Bool → ℕ
+goOns [] = 0
+goOns (f ∷ fs) = cond f 0 1 + goOns fs
+
+-- what the bands have, what is left over, 8 for each flag that said go on, and the reservations still held at the end: for skipping where a flag
+-- said stop, for intensity at its last figure, for dual stereo where it was coded
+unfoldable pub spent : In → Out → ℕ
+spent a o =
+    sumOf (λ j. o .band j .pulses + 8 * a .C * o .band j .fine) (a .start) (a .end - a .start) + o .balance
+    + 8 * goOns (o .flags) + cond (o .stopped) 8 0 + o .reserve + cond (o .dualCoded) 8 0
