@@ -1,0 +1,124 @@
+-- `rate_bands::lists::neighbours`: both lists are filled up to band j.
+use Prim.Native.Nat.{ℕ, _+_, _-_, _*_, _/_, _^_, _≤_, _<_}
+use native.Mathlib.Omega.{arith}
+use mathlib.Core.Path.{_≡_}
+use Rattle.laws.proofs.Lists.{fill-none, fill-up}
+use Rattle.laws.specs.Lists.{fill}
+use Rattle.rate_def.specs.Vectors.{lowBits}
+use Rattle.rate_bands.specs.Frame.{inOf}
+use Rattle.rate_bands.specs.Tilts.{gap}
+use Rattle.rate_bands.proofs.Gauges.{gap-is}
+use Rattle.rate_bands.proofs.Listed.{tilt-at}
+use borrow.Author.Needs.{needs}
+use Rattle.rate_bands.proofs.lists.neighbours.Statement.{statement}
+use Rattle.rate_bands.proofs.lists.neighbours.Tie as tie
+
+abbrev Inv-loop : tie.InvT-loop
+Inv-loop f offs caps steps v scales ups downs lows₀ gaps₀ start end j₀ lows gaps j =
+    (f .start ≤ j) × (j ≤ f .end) × (lows ≡ fill (lowBits (inOf f offs caps) v) (f .start) (j - f .start) lows₀)
+    × (gaps ≡ fill (gap (inOf f offs caps) v) (f .start) (j - f .start) gaps₀)
+
+abbrev μ-loop : tie.MeasureT-loop
+μ-loop f offs caps steps v scales ups downs lows₀ gaps₀ start end j₀ lows gaps j = f .end - j
+
+loop-holds : tie.Need-loop-holds Inv-loop μ-loop
+loop-holds c =
+    let a = c .before .args in
+    let b = inOf (a .f) (a .offs .now) (a .caps .now) in
+    (omega arith, omega arith, fill-none (lowBits b (a .v)) (a .f .start) (a .lows .now), fill-none (gap b (a .v)) (a .f .start) (a .gaps .now))
+
+mul-scale : tie.Need-mul-scale Inv-loop μ-loop
+mul-scale c = omega arith
+
+element-copy-out-scale : tie.Need-element-copy-out-scale Inv-loop μ-loop
+element-copy-out-scale c = omega arith
+
+mul-up : tie.Need-mul-up Inv-loop μ-loop
+mul-up c = omega arith
+
+element-copy-out-up : tie.Need-element-copy-out-up Inv-loop μ-loop
+element-copy-out-up c = omega arith
+
+mul-down : tie.Need-mul-down Inv-loop μ-loop
+mul-down c = omega arith
+
+element-copy-out-down : tie.Need-element-copy-out-down Inv-loop μ-loop
+element-copy-out-down c = omega arith
+
+low-of-requires : tie.Need-low-of-requires Inv-loop μ-loop
+low-of-requires c κs =
+    let l = c .before .before .before .before in
+    let p = l .before .before .pre in
+    (p .0, p .1, p .2, p .3, omega arith, tilt-at _ (p .4) (l .loop .j) (omega arith) (omega arith))
+
+high-of-requires : tie.Need-high-of-requires Inv-loop μ-loop
+high-of-requires c κs =
+    let l = c .before .before .before .before .before in
+    let p = l .before .before .pre in
+    (p .0, p .1, p .2, p .3, omega arith, tilt-at _ (p .4) (l .loop .j) (omega arith) (omega arith))
+
+mul-lows : tie.Need-mul-lows Inv-loop μ-loop
+mul-lows c = omega arith
+
+element-write-lows : tie.Need-element-write-lows Inv-loop μ-loop
+element-write-lows c = omega arith
+
+less-requires : tie.Need-less-requires Inv-loop μ-loop
+less-requires c κs = search needs
+
+mul-gaps : tie.Need-mul-gaps Inv-loop μ-loop
+mul-gaps c = omega arith
+
+element-write-gaps : tie.Need-element-write-gaps Inv-loop μ-loop
+element-write-gaps c = omega arith
+
+add-j : tie.Need-add-j Inv-loop μ-loop
+add-j c = omega arith
+
+loop-less : tie.Need-loop-less Inv-loop μ-loop
+loop-less c = omega arith
+
+loop-again : tie.Need-loop-again Inv-loop μ-loop
+loop-again c =
+    let l = c .before .before .before .before .before .before .before in
+    let a = l .before .before .args in
+    let b = inOf (a .f) (a .offs .now) (a .caps .now) in
+    let v = l .loop .inv in
+    let low = c .before .before .low-of .ensures in (
+      omega arith,
+      omega arith,
+      fill-up (lowBits b (a .v)) (a .f .start) (l .loop .j) (a .lows .now) (v .0) (v .2) low,
+      fill-up (gap b (a .v)) (a .f .start) (l .loop .j) (a .gaps .now) (v .0) (v .3)
+          (gap-is (a .f) (a .offs .now) (a .caps .now) (a .v) (l .loop .j) low (c .before .high-of .ensures) (c .less .ensures)),
+    )
+
+returns : tie.Need-returns Inv-loop μ-loop
+returns c =
+    let v = c .before .loop .inv in
+    let e : c .before .loop .j ≡ c .before .before .before .args .f .end = omega arith in
+    (rw e at (v .2), rw e at (v .3))
+
+pub neighbours-spec : {M : Type 1} → statement M
+neighbours-spec =
+    tie.close
+    (tie.spec
+    Inv-loop
+    μ-loop
+    loop-holds
+    mul-scale
+    element-copy-out-scale
+    mul-up
+    element-copy-out-up
+    mul-down
+    element-copy-out-down
+    low-of-requires
+    high-of-requires
+    mul-lows
+    element-write-lows
+    less-requires
+    mul-gaps
+    element-write-gaps
+    add-j
+    loop-less
+    loop-again
+    returns)

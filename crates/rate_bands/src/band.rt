@@ -1,0 +1,117 @@
+// One band's figures. Band j has w coefficients at LM 0; a caller reads the width once and hands it on.
+use crate::Frame;
+use laws::less;
+use laws::max32;
+use laws::pow2;
+use modes::vectors::step_in;
+ghost use mathlib.Core.Path.{_≡_};
+ghost use Prim.Native.Nat.{_+_, _≤_, _<_};
+ghost use Rattle.modes.specs.Edges.{width};
+ghost use Rattle.modes.specs.Vectors.{vectors};
+ghost use Rattle.rate_def.specs.Vectors.{threshold, slope, trimUp, trimDown, trimmed, lowBits, highBits};
+ghost use Rattle.rate_bands.specs.Frame.{bare, inOf, FrameIn, ListsIn};
+ghost use Rattle.rate_bands.specs.Tilts.{scale, Tilt};
+
+// Below it band j is not worth coding.
+pub fn threshold_of(f: Frame, j: usize, w: u32) -> u32
+    requires { ⌜ FrameIn f × (w ≡ width j) ⌝ }
+    ensures { λ r. ⌜ r ≡ threshold (bare f) j ⌝ }
+{
+    let p = pow2(f.lm);
+    max32(8 * f.c, 3 * w * p * 8 / 16)
+}
+
+// What a step of an allocation vector is multiplied by, and divided by 4, to give bits.
+pub fn scale_of(f: Frame, j: usize, w: u32) -> u32
+    requires { ⌜ FrameIn f × (w ≡ width j) ⌝ }
+    ensures { λ r. ⌜ r ≡ scale (bare f) j ⌝ }
+{
+    let p = pow2(f.lm);
+    f.c * w * p
+}
+
+// What a step of the trim tilts band j by, in 64ths.
+pub fn slope_of(f: Frame, j: usize, w: u32) -> u32
+    requires { ⌜ FrameIn f × (j < f .end) × (w ≡ width j) ⌝ }
+    ensures { λ r. ⌜ r ≡ slope (bare f) j ⌝ }
+{
+    let p = pow2(f.lm + 3);
+    let above = (f.end - 1 - j) as u32;
+    f.c * w * above * p
+}
+
+// The trim's part upwards, of a band with slope s.
+pub fn up_of(f: Frame, j: usize, s: u32) -> u32
+    requires { ⌜ FrameIn f × (s ≡ slope (bare f) j) ⌝ }
+    ensures { λ r. ⌜ r ≡ trimUp (bare f) j ⌝ }
+{
+    let d = less(f.trim, 5 + f.lm);
+    s * d / 64
+}
+
+// The part downwards, and the floor of a single coefficient.
+pub fn down_of(f: Frame, j: usize, w: u32, s: u32) -> u32
+    requires { ⌜ FrameIn f × (w ≡ width j) × (s ≡ slope (bare f) j) ⌝ }
+    ensures { λ r. ⌜ r ≡ trimDown (bare f) j ⌝ }
+{
+    let d = less(5 + f.lm, f.trim);
+    let m = (s * d + 63) / 64;
+    let p = pow2(f.lm);
+    if w * p == 1 { m + 8 * f.c } else { m }
+}
+
+// x bits of band j after the trim.
+pub fn trimmed_of(f: Frame, j: usize, x: u32, up: u32, down: u32) -> u32
+    requires { ⌜ FrameIn f × (x ≤ 32767) × (up ≡ trimUp (bare f) j) × (down ≡ trimDown (bare f) j) ⌝ }
+    ensures { λ r. ⌜ r ≡ trimmed (bare f) x j ⌝ }
+{
+    if x == 0 {
+        return 0;
+    }
+    less(x + up, down)
+}
+
+// Vector v's bits for band j as the lower one of two.
+pub fn low_of(
+    f: Frame,
+    offs: &[u32; 21],
+    caps: &[u32; 21],
+    steps: &[u8],
+    v: usize,
+    j: usize,
+    scale: u32,
+    up: u32,
+    down: u32,
+) -> u32
+    requires { ⌜ FrameIn f × ListsIn (now offs) (now caps) × (now steps ≡ vectors) × (v < 11) × (j < f .end) × Tilt (bare f) j scale up down ⌝ }
+    ensures { λ r. ⌜ r ≡ lowBits (inOf f (now (offs .entry)) (now (caps .entry))) v j ⌝ }
+{
+    let s = step_in(steps, v, j);
+    let x = trimmed_of(f, j, scale * s / 4, up, down);
+    if v == 0 {
+        return x;
+    }
+    x + offs[j]
+}
+
+// The bits for band j of the vector after v, as the upper one of two.
+pub fn high_of(
+    f: Frame,
+    offs: &[u32; 21],
+    caps: &[u32; 21],
+    steps: &[u8],
+    v: usize,
+    j: usize,
+    scale: u32,
+    up: u32,
+    down: u32,
+) -> u32
+    requires { ⌜ FrameIn f × ListsIn (now offs) (now caps) × (now steps ≡ vectors) × (v < 11) × (j < f .end) × Tilt (bare f) j scale up down ⌝ }
+    ensures { λ r. ⌜ r ≡ highBits (inOf f (now (offs .entry)) (now (caps .entry))) (v + 1) j ⌝ }
+{
+    if v == 10 {
+        return trimmed_of(f, j, caps[j], up, down) + offs[j];
+    }
+    let s = step_in(steps, v + 1, j);
+    trimmed_of(f, j, scale * s / 4, up, down) + offs[j]
+}

@@ -1,0 +1,58 @@
+-- A list filled in two parts, first the coded bands and then the skipped ones. Assumes nothing.
+use Prim.Native.Nat.{ℕ, zero, suc, _+_, _-_, _≤_, _<_}
+use mathlib.Core.Bool.{Bool}
+use mathlib.Core.List.{List}
+use mathlib.Core.Path.{_≡_, refl, ap, sym, _∙_}
+use native.Mathlib.Omega.{arith}
+use lib.ListN.{length, getD, set, take, drop}
+use lib.Seq.{getD-take, getD-drop}
+use borrow.Author.Tests.{lt-ltb, le-ltb}
+use Rattle.laws.specs.Lists.{fill}
+use Rattle.laws.proofs.Lists.{fill-length, fill-same, fill-up}
+use Rattle.rate_def.specs.Alloc.{bandOf, skipped}
+use Rattle.rate_bands.specs.declared.Frame.{Frame}
+use Rattle.rate_split.specs.Bands.{bandAt, codedAt, skippedAt}
+
+module _ {A : Type 0} where
+  fill-more : (h : ℕ → A) (mid m : ℕ) (l : List A) → fill h mid (suc m) l ≡ set (fill h mid m l) (mid + m) (h (mid + m))
+  fill-more h mid m l =
+      let e : mid + m - mid ≡ m = omega arith in
+      let g : mid + m + 1 - mid ≡ suc m = omega arith in
+      rw (e, g) at (sym (fill-up h mid (mid + m) l {b = fill h mid (mid + m - mid) l} {r = h (mid + m)} (omega arith) refl refl))
+
+  fill-append : (h : ℕ → A) (start mid m : ℕ) (l : List A) → start ≤ mid → fill h mid m (fill h start (mid - start) l) ≡ fill h start (mid + m - start) l
+  unfolding fill
+  fill-append h start mid zero l s = let e : mid + 0 - start ≡ mid - start = omega arith in rw e
+  fill-append h start mid (suc m) l s =
+      let e : mid + suc m - start ≡ mid + m + 1 - start = omega arith in
+      fill-more h mid m (fill h start (mid - start) l)
+      ∙ fill-up h start (mid + m) l (omega arith) (fill-append h start mid m l s) refl
+      ∙ ap (λ (n : ℕ). fill h start n l) (sym e)
+
+  pub fill-parts : (f g h : ℕ → A) (start mid end : ℕ) (l : List A) {u v : List A} → start ≤ mid → mid ≤ end
+      → ((i : ℕ) → i < mid → f i ≡ h i) → ((i : ℕ) → mid ≤ i → i < end → g i ≡ h i)
+      → u ≡ fill f start (mid - start) l → v ≡ fill g mid (end - mid) u → v ≡ fill h start (end - start) l
+  fill-parts f g h start mid end l s t p q x y =
+      let e : mid + (end - mid) - start ≡ end - start = omega arith in
+      y
+      ∙ fill-same g h (end - mid) mid _ (λ i b c. q i b (omega arith))
+      ∙ ap (fill h mid (end - mid)) (x ∙ fill-same f h (mid - start) start l (λ i b c. p i (omega arith)))
+      ∙ fill-append h start mid (end - mid) l s
+      ∙ ap (λ (n : ℕ). fill h start n l) e
+
+-- a filled list is as long as it was
+pub filled-length : {A : Type 0} (f : ℕ → A) (n start : ℕ) (m : List A) {l : List A} → l ≡ fill f start n m → length l ≡ length m
+filled-length f n start m e = ap length e ∙ fill-length f n start m
+
+module _ (f : Frame) (caps bits : List ℕ) (coded left intensity : ℕ) (dual : Bool) (kept : List ℕ) (j : ℕ) where
+  pub coded-is : j < coded → codedAt f caps bits coded left intensity dual j ≡ bandAt f caps bits coded left intensity dual kept j
+  unfolding bandOf
+  coded-is h = rw (lt-ltb j coded h)
+
+  pub skipped-is : coded ≤ j → j < f .end → skippedAt (f .c) (getD kept j 0) ≡ bandAt f caps bits coded left intensity dual kept j
+  unfolding bandOf skipped
+  skipped-is h g =
+      let e : coded + (j - coded) ≡ j = omega arith in
+      let i : j - coded < f .end - coded = omega arith in
+      let k : getD (take (f .end - coded) (drop coded kept)) (j - coded) 0 ≡ getD kept j 0 = rw (getD-take, getD-drop, e) in
+      rw (le-ltb j coded h, k)

@@ -1,0 +1,3 @@
+-- What the code of the spread and the split answers, and what it is asked.
+pub mod Parts
+pub mod Bands
