@@ -1,0 +1,51 @@
+-- `replay_io::end_of` meets its contract. The invariant: the place is not below the first. Assumes nothing.
+use borrow.Author.Needs.{needs}
+use Prim.Native.Nat.{_-_, _≤_}
+use lib.ListN.{length}
+use Rattle.replay_io.proofs.end_of.Statement.{statement}
+use Rattle.replay_io.proofs.end_of.Tie as tie
+
+abbrev Inv-loop : tie.InvT-loop
+Inv-loop s from i₀ i = from ≤ i
+
+abbrev μ-loop : tie.MeasureT-loop
+μ-loop s from i₀ i = length s - i
+
+loop-holds : tie.Need-loop-holds Inv-loop μ-loop
+loop-holds c = search needs
+
+shared-slice-read-is-figure : tie.Need-shared-slice-read-is-figure Inv-loop μ-loop
+shared-slice-read-is-figure c = search needs
+
+is-figure-requires : tie.Need-is-figure-requires Inv-loop μ-loop
+is-figure-requires c κs = search needs
+
+returns : tie.Need-returns Inv-loop μ-loop
+returns c = search needs
+
+add-i : tie.Need-add-i Inv-loop μ-loop
+add-i c = search needs
+
+loop-less : tie.Need-loop-less Inv-loop μ-loop
+loop-less c = search needs
+
+loop-again : tie.Need-loop-again Inv-loop μ-loop
+loop-again c = search needs
+
+returns-2 : tie.Need-returns-2 Inv-loop μ-loop
+returns-2 c = search needs
+
+pub end-of-spec : {M : Type 1} → statement M
+end-of-spec =
+    tie.close
+    (tie.spec
+    Inv-loop
+    μ-loop
+    loop-holds
+    shared-slice-read-is-figure
+    is-figure-requires
+    returns
+    add-i
+    loop-less
+    loop-again
+    returns-2)

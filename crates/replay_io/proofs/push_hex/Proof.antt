@@ -1,0 +1,87 @@
+-- `replay_io::push_hex` meets its contract. The invariant: the text has the first i bytes in hex after it, as far as there is room.
+-- Assumes nothing.
+use borrow.Author.Needs.{needs}
+use Prim.Native.Nat.{_-_, _≤_}
+use mathlib.Core.Path.{_≡_, refl, _∙_}
+use native.Mathlib.Omega.{arith}
+use lib.ListN.{length, take}
+use Rattle.replay_io.specs.Text.{joined, hexOf}
+use Rattle.replay_io.proofs.Texts.{hex-none, hex-more, hex-all}
+use Rattle.replay_io.proofs.push_hex.Statement.{statement}
+use Rattle.replay_io.proofs.push_hex.Tie as tie
+
+abbrev Inv-loop : tie.InvT-loop
+Inv-loop out₀ n s k₀ i₀ out k i = (i ≤ length s) × (length out ≡ length out₀) × (take k out ≡ joined (length out₀) (take n out₀) (hexOf (take i s)))
+
+abbrev μ-loop : tie.MeasureT-loop
+μ-loop out₀ n s k₀ i₀ out k i = length s - i
+
+loop-holds : tie.Need-loop-holds Inv-loop μ-loop
+loop-holds c =
+    let a = c .before .before .args in
+    (omega arith, refl, hex-none (a .out .now) (a .n) (a .s .now))
+
+shared-slice-read-b : tie.Need-shared-slice-read-b Inv-loop μ-loop
+shared-slice-read-b c = search needs
+
+glyph-requires : tie.Need-glyph-requires Inv-loop μ-loop
+glyph-requires c κs = search needs
+
+push-requires : tie.Need-push-requires Inv-loop μ-loop
+push-requires c κs = search needs
+
+glyph-requires-2 : tie.Need-glyph-requires-2 Inv-loop μ-loop
+glyph-requires-2 c κs = search needs
+
+push-requires-2 : tie.Need-push-requires-2 Inv-loop μ-loop
+push-requires-2 c κs = search needs
+
+add-i : tie.Need-add-i Inv-loop μ-loop
+add-i c = search needs
+
+loop-less : tie.Need-loop-less Inv-loop μ-loop
+loop-less c = search needs
+
+loop-again : tie.Need-loop-again Inv-loop μ-loop
+loop-again c =
+    let a = c .before .before .before .before .before .before .before .before .before .before .before .before .before .before .before .args in
+    let l = c .before .before .before .before .before .before .before .before .before .before .before .before .loop in
+    let h = c .before .before .before .before .before .before .before .before .before .before .before .loop-test .taken in
+    let p = c .before .before .before .before .before .before .before .push in
+    let q = c .before .before .push2 in
+    let e = p .kept .0 ∙ l .inv .1 in (
+      omega arith,
+      q .kept .0 ∙ e,
+      hex-more (length (a .out .now)) (take (a .n) (a .out .now)) (a .s .now) (l .i) h (l .inv .1) e (l .inv .2)
+          (c .before .before .before .before .before .before .before .before .glyph .ensures)
+          (c .before .before .before .glyph2 .ensures)
+          (p .ensures)
+          (q .ensures),
+    )
+
+same-length : tie.Need-same-length Inv-loop μ-loop
+same-length c = search needs
+
+returns : tie.Need-returns Inv-loop μ-loop
+returns c =
+    let a = c .before .before .before .before .args in
+    let l = c .before .loop in
+    hex-all (length (a .out .now)) (take (a .n) (a .out .now)) (a .s .now) (l .i) (c .loop-test .left) (l .inv .2)
+
+pub push-hex-spec : {M : Type 1} → statement M
+push-hex-spec =
+    tie.close
+    (tie.spec
+    Inv-loop
+    μ-loop
+    loop-holds
+    shared-slice-read-b
+    glyph-requires
+    push-requires
+    glyph-requires-2
+    push-requires-2
+    add-i
+    loop-less
+    loop-again
+    same-length
+    returns)

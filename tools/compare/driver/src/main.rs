@@ -1,0 +1,155 @@
+//! Records the oracles' answers, and holds a program's answers against them. Each kind of request is a module: it makes request lines
+//! from a seed, and it answers a line as the oracles do.
+mod coder;
+mod coder_sequences;
+mod laplace_sequences;
+mod pulse_sequences;
+mod random;
+mod words;
+
+use std::io::{Read, Write};
+use std::process::{Command, Stdio};
+
+/// Request lines that stand for themselves: no answer depends on an earlier sequence.
+pub type Sequence = Vec<String>;
+
+/// Whoever answers request lines. A line that only prepares a later one has no answer.
+pub trait Side {
+    fn answer(&mut self, line: &str) -> Option<String>;
+}
+
+/// A kind of request: what --record, --answer and --compare need to know of it.
+struct Kind {
+    name: &'static str,
+    sequences: fn(&mut random::Random) -> Vec<Sequence>,
+    oracle: fn() -> Box<dyn Side>,
+    figures: fn(&[Sequence]) -> Vec<String>,
+}
+
+const KINDS: [Kind; 2] = [
+    Kind {
+        name: "coder",
+        sequences: coder_sequences::all,
+        oracle: || Box::new(coder::Oracle::new()),
+        figures: coder_sequences::figures,
+    },
+    Kind {
+        name: "words",
+        sequences: |r| [laplace_sequences::all(r), pulse_sequences::all(r)].concat(),
+        oracle: || Box::new(words::Oracle::new()),
+        figures: |list| [laplace_sequences::figures(list), pulse_sequences::figures(list)].concat(),
+    },
+];
+
+/// The seed of every record.
+const SEED: u64 = 6716;
+
+fn fail(text: &str) -> ! {
+    eprintln!("compare: {text}");
+    std::process::exit(1)
+}
+
+fn answers(kind: &Kind, lines: &[String]) -> Vec<String> {
+    let mut side = (kind.oracle)();
+    lines.iter().filter_map(|line| side.answer(line)).collect()
+}
+
+fn joined(lines: &[String]) -> String {
+    lines.iter().map(|line| format!("{line}\n")).collect()
+}
+
+fn record(kind: &Kind, folder: &str) {
+    let sequences = (kind.sequences)(&mut random::Random::new(SEED));
+    let lines = sequences.concat();
+    let said = answers(kind, &lines);
+    for (name, text) in [("stdin", joined(&lines)), ("stdout", joined(&said))] {
+        let path = format!("{folder}/{name}");
+        std::fs::write(&path, &text).unwrap_or_else(|e| fail(&format!("{path}: {e}")));
+        eprintln!("{path}: {} lines, {} bytes", text.lines().count(), text.len());
+    }
+    eprintln!("{}: seed {SEED}, {} sequences", kind.name, sequences.len());
+    for line in (kind.figures)(&sequences) {
+        eprintln!("{line}");
+    }
+}
+
+fn answer(kind: &Kind) {
+    let mut text = String::new();
+    std::io::stdin().read_to_string(&mut text).unwrap_or_else(|e| fail(&format!("standard input: {e}")));
+    let lines: Vec<String> = text.lines().map(str::to_string).collect();
+    print!("{}", joined(&answers(kind, &lines)));
+}
+
+/// What a program writes on these lines.
+fn run(program: &str, lines: &[String]) -> Vec<String> {
+    let mut child = Command::new(program)
+        .stdin(Stdio::piped())
+        .stdout(Stdio::piped())
+        .spawn()
+        .unwrap_or_else(|e| fail(&format!("{program}: {e}")));
+    let mut into = child.stdin.take().expect("a pipe");
+    let text = joined(lines);
+    let feeding = std::thread::spawn(move || into.write_all(text.as_bytes()));
+    let mut said = String::new();
+    child.stdout.take().expect("a pipe").read_to_string(&mut said).unwrap_or_else(|e| fail(&format!("{program}: {e}")));
+    let _ = feeding.join();
+    let _ = child.wait();
+    said.lines().map(str::to_string).collect()
+}
+
+/// The requests of the sequence up to the first answer that differs, and both answers.
+fn shown(kind: &Kind, sequence: &Sequence, said: &[String]) -> Option<String> {
+    let mut side = (kind.oracle)();
+    let mut place = 0;
+    for (at, line) in sequence.iter().enumerate() {
+        let Some(right) = side.answer(line) else { continue };
+        let other = said.get(place).map_or("(nothing)", |s| s.as_str());
+        if right != other {
+            return Some(format!("{}oracle:  {right}\nprogram: {other}", joined(&sequence[..=at])));
+        }
+        place += 1;
+    }
+    (place < said.len()).then(|| format!("{}the program wrote more: {}", joined(sequence), said[place]))
+}
+
+fn compare(kind: &Kind, program: &str, seed: u64, rounds: u64) {
+    let (mut sequences, mut lines) = (0, 0);
+    for round in 0..rounds {
+        let list = (kind.sequences)(&mut random::Random::new(seed + round));
+        let all = list.concat();
+        let right = answers(kind, &all);
+        sequences += list.len();
+        lines += right.len();
+        if run(program, &all) == right {
+            continue;
+        }
+        // The sequences run one by one, the shortest first, so that the smallest input is shown.
+        let mut list = list;
+        list.sort_by_key(Vec::len);
+        for sequence in &list {
+            if let Some(text) = shown(kind, sequence, &run(program, sequence)) {
+                print!("{text}\n");
+                fail(&format!("seed {} differs", seed + round));
+            }
+        }
+        fail(&format!("seed {} differs, though each sequence alone agrees", seed + round));
+    }
+    println!("{}: seeds {seed} to {}, {sequences} sequences, {lines} answers: all agree", kind.name, seed + rounds - 1);
+}
+
+fn main() {
+    let words: Vec<String> = std::env::args().skip(1).collect();
+    let words: Vec<&str> = words.iter().map(String::as_str).collect();
+    let (Some(action), Some(name)) = (words.first(), words.get(1)) else { fail("driver ACTION KIND ..") };
+    let Some(kind) = KINDS.iter().find(|k| k.name == *name) else {
+        let names: Vec<&str> = KINDS.iter().map(|k| k.name).collect();
+        fail(&format!("no kind '{name}'; the kinds are: {}", names.join(" ")))
+    };
+    let number = |text: &str| text.parse::<u64>().unwrap_or_else(|_| fail(&format!("'{text}' is no number")));
+    match (*action, &words[2..]) {
+        ("record", [folder]) => record(kind, folder),
+        ("answer", []) => answer(kind),
+        ("compare", [program, seed, rounds]) => compare(kind, program, number(seed), number(rounds)),
+        _ => fail("driver record KIND FOLDER | answer KIND | compare KIND PROGRAM SEED ROUNDS"),
+    }
+}
