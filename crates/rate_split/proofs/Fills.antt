@@ -1,15 +1,16 @@
 -- A list filled in two parts, first the coded bands and then the skipped ones. Assumes nothing.
 use Prim.Native.Nat.{ℕ, zero, suc, _+_, _-_, _≤_, _<_}
 use mathlib.Core.Bool.{Bool}
-use mathlib.Core.List.{List}
+use mathlib.Core.List.{List, []}
 use mathlib.Core.Path.{_≡_, refl, ap, sym, _∙_}
 use native.Mathlib.Omega.{arith}
 use lib.ListN.{length, getD, set, take, drop}
 use lib.Seq.{getD-take, getD-drop}
-use borrow.Author.Tests.{lt-ltb, le-ltb}
 use Rattle.laws.specs.Lists.{fill}
 use Rattle.laws.proofs.Lists.{fill-length, fill-same, fill-up}
-use Rattle.rate_def.specs.Alloc.{bandOf, skipped}
+use Rattle.rate_def.specs.Alloc.{skipped}
+use Rattle.rate_def.proofs.Loops.{band-coded, band-skipped}
+use Rattle.rate_bands.specs.Frame.{inOf}
 use Rattle.rate_bands.specs.declared.Frame.{Frame}
 use Rattle.rate_split.specs.Bands.{bandAt, codedAt, skippedAt}
 
@@ -46,13 +47,12 @@ filled-length f n start m e = ap length e ∙ fill-length f n start m
 
 module _ (f : Frame) (caps bits : List ℕ) (coded left intensity : ℕ) (dual : Bool) (kept : List ℕ) (j : ℕ) where
   pub coded-is : j < coded → codedAt f caps bits coded left intensity dual j ≡ bandAt f caps bits coded left intensity dual kept j
-  unfolding bandOf
-  coded-is h = rw (lt-ltb j coded h)
+  coded-is h = sym (band-coded (inOf f [] caps) (λ j. getD bits j 0) coded left intensity dual _ j h)
 
   pub skipped-is : coded ≤ j → j < f .end → skippedAt (f .c) (getD kept j 0) ≡ bandAt f caps bits coded left intensity dual kept j
-  unfolding bandOf skipped
+  unfolding skipped
   skipped-is h g =
       let e : coded + (j - coded) ≡ j = omega arith in
       let i : j - coded < f .end - coded = omega arith in
       let k : getD (take (f .end - coded) (drop coded kept)) (j - coded) 0 ≡ getD kept j 0 = rw (getD-take, getD-drop, e) in
-      rw (le-ltb j coded h, k)
+      sym (rw k at (band-skipped (inOf f [] caps) (λ j. getD bits j 0) coded left intensity dual (take (f .end - coded) (drop coded kept)) j h))
