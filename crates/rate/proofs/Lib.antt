@@ -1,0 +1,6 @@
+-- Lemmas that the proofs share. To cite: Joined, Accepts.
+pub mod Begins
+pub mod Asking
+pub mod Joined
+pub mod Shown
+pub mod Accepts

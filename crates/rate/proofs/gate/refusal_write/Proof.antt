@@ -1,0 +1,37 @@
+-- `rate::gate::refusal_write`: the tests, in the order of the refusals. Assumes nothing.
+use mir.Facts.{toZ-ofZ}
+use borrow.Author.Needs.{needs}
+use Rattle.rate.proofs.gate.refusal_write.Statement.{statement}
+use Rattle.rate.proofs.gate.refusal_write.Tie as tie
+
+lengths-ok-requires : tie.Need-lengths-ok-requires
+lengths-ok-requires c κs = search needs
+
+numbers-ok-requires : tie.Need-numbers-ok-requires
+numbers-ok-requires c κs = search needs
+
+stereo-ok-requires : tie.Need-stereo-ok-requires
+stereo-ok-requires c κs = search needs
+
+entries-ok-requires : tie.Need-entries-ok-requires
+entries-ok-requires c κs = search needs
+
+refusal-requires : tie.Need-refusal-requires
+refusal-requires c κs = search needs
+
+returns : tie.Need-returns
+returns c =
+    let p = c .before .before .before .before in
+    let t = rw (toZ-ofZ (p .before .fits .intensity), toZ-ofZ (p .before .fits .dual)) at (c .before .before .stereo-ok .ensures) in
+    rw (p .lengths-ok .ensures, c .before .before .before .numbers-ok .ensures, t, c .before .entries-ok .ensures) at (c .refusal .ensures)
+
+pub refusal-write-spec : {M : Type 1} → statement M
+refusal-write-spec =
+    tie.close
+    (tie.spec
+    lengths-ok-requires
+    numbers-ok-requires
+    stereo-ok-requires
+    entries-ok-requires
+    refusal-requires
+    returns)

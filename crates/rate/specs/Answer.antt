@@ -1,0 +1,111 @@
+-- What an allocation answers, by document 01's number of the refusal and the values, and what the lent lists and bytes then hold.
+use Prim.Native.Nat.{ℕ, zero, suc, _-_}
+use mathlib.Core.Bool.{Bool, cond}
+use mathlib.Core.List.{List}
+use lib.IntN.{ℤ, pos}
+use lib.Signed.{ltZ}
+use Rattle.laws.specs.Lists.{fill}
+use Rattle.laws.specs.Signs.{clip}
+use Rattle.entdec.specs.declared.Reader.{Reader}
+use Rattle.entenc.specs.declared.Writer.{Writer}
+use Rattle.entenc.specs.Write.{Wr}
+use Rattle.rate_def.specs.Asked.{Band, In, Out}
+use Rattle.rate_def.specs.Alloc.{alloc}
+use Rattle.rate_skip.specs.Asks.{readAsk, writeAsk}
+use Rattle.rate.specs.declared.Numbers.{Numbers}
+use Rattle.rate.specs.declared.ReadAllocation.{ReadAllocation}
+use Rattle.rate.specs.declared.WrittenAllocation.{WrittenAllocation}
+use Rattle.rate.specs.declared.AllocRead.{AllocRead}
+use Rattle.rate.specs.declared.AllocRead.the-variants as read
+use Rattle.rate.specs.declared.AllocWrote.{AllocWrote}
+use Rattle.rate.specs.declared.AllocWrote.the-variants as wrote
+use Rattle.rate.specs.Question.{Lists, Wishes, allocInput, lists, refusalRead, refusalWrite}
+
+-- ---- the definition's answer as the call gives it
+
+-- one of a band's figures in each of the places start..end-1, the others unchanged
+abbrev pub listed : In → (Band → ℕ) → Out → List ℤ → List ℤ
+listed a figure o l = fill (λ j. pos (figure (o .band j))) (a .start) (a .end - a .start) l
+
+-- the three lists
+abbrev pub listsOf : In → Out → Lists → Lists
+listsOf a o l = lists (listed a (λ b. b .pulses) o (l .pulses)) (listed a (λ b. b .fine) o (l .fine)) (listed a (λ b. b .prio) o (l .priorities))
+
+-- the numbers, with the reader after the call
+abbrev pub readNumbers : ℕ → ℕ → ℕ → Bool → Reader → ReadAllocation
+readNumbers coded balance intensity dual next =
+    record { coded = pos coded; balance = pos balance; intensity = pos intensity; dual = pos (cond dual 1 0); next = next }
+
+abbrev pub readShown : Out × Reader → ReadAllocation
+readShown (o, d) = readNumbers (o .coded) (o .balance) (o .intensity) (o .dual) d
+
+-- the numbers, with the writer after the call
+abbrev pub writtenNumbers : ℕ → ℕ → ℕ → Bool → Writer → WrittenAllocation
+writtenNumbers coded balance intensity dual next =
+    record { coded = pos coded; balance = pos balance; intensity = pos intensity; dual = pos (cond dual 1 0); next = next }
+
+abbrev pub writtenShown : Out × Wr → WrittenAllocation
+writtenShown (o, w) = writtenNumbers (o .coded) (o .balance) (o .intensity) (o .dual) (w .st)
+
+-- ---- reading
+
+-- the allocation whose questions the packet s answers
+abbrev pub readAlloc : In → List ℕ → Reader → Out × Reader
+readAlloc a s d = alloc a (readAsk s) d
+
+-- an answer, and the lent lists after the call
+pub record Read : Type 0 where
+  pub said : AllocRead
+  pub lent : Lists
+
+abbrev pub afterRead : AllocRead → Lists → Read
+afterRead r l = record { said = r; lent = l }
+
+-- number 0: the allocation, and its lists; any other: that refusal, and the lists as they were
+unfoldable pub answerRead : ℕ → In → Out × Reader → Lists → Read
+answerRead zero a o l = afterRead (read.Got (readShown o)) (listsOf a (o .0) l)
+answerRead (suc n) a o l = afterRead (read.Refused (suc n)) l
+
+-- a checked read
+abbrev pub reading : Numbers → List ℤ → List ℤ → List ℕ → Reader → Lists → Read
+reading q offsets caps s d l =
+    answerRead (refusalRead q offsets caps l s d) (allocInput q offsets caps) (readAlloc (allocInput q offsets caps) s d) l
+
+-- document 01's number of an answer, 0 where it is no refusal
+abbrev pub numberRead : AllocRead → ℕ
+numberRead (read.Got y) = 0
+numberRead (read.Refused n) = n
+
+-- ---- writing
+
+-- the allocation of an encoder that is told an intensity and dual stereo, and the band count of the frame before and the signal's bandwidth
+abbrev pub writeAlloc : In → ℕ → Bool → ℤ → ℤ → Wr → Out × Wr
+writeAlloc a intensity dual previous bandwidth w = alloc a (writeAsk a previous bandwidth intensity dual) w
+
+-- the same, as a call is told it
+abbrev pub writeWished : In → Wishes → Wr → Out × Wr
+writeWished a h w = writeAlloc a (clip (h .intensity)) (ltZ (pos 0) (h .dual)) (h .previous) (h .bandwidth) w
+
+-- an answer, and the lent lists and bytes after the call
+pub record Written : Type 0 where
+  pub said : AllocWrote
+  pub lent : Lists
+  pub bytes : List ℕ
+
+abbrev pub afterWritten : AllocWrote → Lists → List ℕ → Written
+afterWritten r l b = record { said = r; lent = l; bytes = b }
+
+-- number 0: the allocation, its lists and the bytes; any other: that refusal, and lists and bytes as they were
+unfoldable pub answerWritten : ℕ → In → Out × Wr → Lists → Wr → Written
+answerWritten zero a o l w = afterWritten (wrote.Got (writtenShown o)) (listsOf a (o .0) l) (o .1 .bytes)
+answerWritten (suc n) a o l w = afterWritten (wrote.Refused (suc n)) l (w .bytes)
+
+-- a checked write
+abbrev pub writing : Numbers → Wishes → List ℤ → List ℤ → Wr → Lists → Written
+writing q h offsets caps w l =
+    answerWritten (refusalWrite q offsets caps l h w) (allocInput q offsets caps) (writeWished (allocInput q offsets caps) h w) l w
+
+-- document 01's number of an answer, 0 where it is no refusal
+abbrev pub numberWritten : AllocWrote → ℕ
+numberWritten (wrote.Got y) = 0
+numberWritten (wrote.Refused n) = n
