@@ -4,6 +4,7 @@ use mathlib.Core.Path.{_≡_, refl}
 use mathlib.Core.Bool.{Bool, true, _&&_, and-eq-true-iff, false≢true}
 use mathlib.Core.List.{List, [], _∷_, map}
 use native.Mathlib.Omega.{arith}
+use lib.Dec.{eqb}
 use lib.IntN.{ℤ, pos, negsuc}
 use lib.ListN.{getD, length}
 use lib.Signed.{leZ, ltZ}
@@ -12,16 +13,20 @@ use Rattle.laws.specs.Lists.{every}
 use Rattle.laws.specs.Signs.{clip, inRange}
 use Rattle.laws.proofs.Signs.{entries-count, range-count}
 use Rattle.entdec.specs.declared.Reader.{Reader}
+use Rattle.entcode.proofs.Refusals.{passed}
+use Rattle.entenc.specs.declared.Writer.{Writer}
+use Rattle.entenc.specs.Rule.{writeRefusal, writerOk}
 use Rattle.entenc.specs.Write.{Wr}
 use Rattle.rate_def.specs.Asked.{In, Out}
-use Rattle.rate_bands.specs.Frame.{FrameIn, ListsIn}
+use Rattle.rate_bands.specs.declared.Frame.{Frame}
+use Rattle.rate_bands.specs.Frame.{FrameIn, ListsIn, inOf}
 use Rattle.rate.specs.declared.Numbers.{Numbers}
 use Rattle.rate.specs.declared.ReadAllocation.{ReadAllocation}
 use Rattle.rate.specs.declared.WrittenAllocation.{WrittenAllocation}
 use Rattle.rate.specs.declared.AllocRead.the-variants as read
 use Rattle.rate.specs.declared.AllocWrote.the-variants as wrote
 use Rattle.rate.specs.Question.{Lists, entriesOk, frameOf, lengthsOk, numbersOk}
-use Rattle.rate.specs.Answer.{afterRead, afterWritten, answerRead, answerWritten, listsOf, readShown, writtenShown}
+use Rattle.rate.specs.Answer.{afterRead, afterWritten, answerRead, answerWritten, listsOf, readShown, writeAlloc, writtenShown}
 
 -- ---- lengths
 
@@ -92,6 +97,23 @@ entries offsets caps e =
       caps-le = λ i. rw (clip-at caps i) (entries-count 32767 caps (a .1) i .high);
     }
 
+-- ---- number 0 of a call that writes
+
+pub record Opened (m : ℕ) (w : Writer) (lengths numbers lists : Bool) : Type 0 where
+  pub whole : w .sink .storage ≡ m
+  pub sizes : lengths ≡ true
+  pub state : writerOk w ≡ true
+  pub known : numbers ≡ true
+  pub entries : lists ≡ true
+
+pub opened : (m : ℕ) (w : Writer) (lengths numbers lists : Bool) → writeRefusal m w lengths numbers lists 0 ≡ 0 → Opened m w lengths numbers lists
+unfolding writeRefusal
+opened m w lengths numbers lists h =
+    let p = passed _ _ _ _ _ _ h in
+    let a = and-eq-true-iff (eqb (w .sink .storage) m) lengths .0 (p .two) in
+    let b = and-eq-true-iff (writerOk w) numbers .0 (p .one) in
+    record { whole = eqb-true (w .sink .storage) m (a .0); sizes = a .1; state = b .0; known = b .1; entries = p .three }
+
 -- ---- answers
 
 pub got-read : (n : ℕ) (a : In) (x : Out × Reader) (l : Lists) {y : ReadAllocation} {m : Lists} → n ≡ 0 → y ≡ readShown x → m ≡ listsOf a (x .0) l
@@ -113,3 +135,12 @@ pub refused-written : (n : ℕ) (a : In) (x : Out × Wr) (l : Lists) (w : Wr) �
 unfolding answerWritten
 refused-written zero a x l w h = absurd (h refl)
 refused-written (suc n) a x l w h = refl
+
+-- the work's contract, at the call's own numbers
+pub work-written : (n : ℕ) (l : Lists) (w : Wr) {f g : Frame} {o p c d : List ℕ} {i j : ℕ} {x y : Bool} {u v s t : ℤ} → f ≡ g → o ≡ p → c ≡ d → i ≡ j → x ≡ y → u ≡ v
+    → s ≡ t → n ≡ 0 → {r : WrittenAllocation} {m : Lists} {b : List ℕ} → (r ≡ writtenShown (writeAlloc (inOf f o c) i x u s w))
+    × (b ≡ writeAlloc (inOf f o c) i x u s w .1 .bytes) × (m ≡ listsOf (inOf f o c) (writeAlloc (inOf f o c) i x u s w .0) l)
+    → afterWritten (wrote.Got r) m b ≡ answerWritten n (inOf g p d) (writeAlloc (inOf g p d) j y v t w) l w
+work-written n l w {f} {g} {o} {p} {c} {d} {i} {j} {x} {y} {u} {v} {s} {t} e₁ e₂ e₃ e₄ e₅ e₆ e₇ z k =
+    rw (← e₁, ← e₂, ← e₃, ← e₄, ← e₅, ← e₆, ← e₇)
+    (got-written n (inOf f o c) (writeAlloc (inOf f o c) i x u s w) l w z (k .0) (k .1) (k .2))

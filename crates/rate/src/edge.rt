@@ -36,6 +36,13 @@ pub fn frame_of(q: Numbers) -> Frame
     }
 }
 
+// A number as a place: a negative one reads as 0.
+pub fn place_of(z: i32) -> usize
+    ensures { λ r. ⌜ r ≡ clip z ⌝ }
+{
+    clipped(z) as usize
+}
+
 // A list's entries as counts.
 pub fn counts_of(l: &[i32]) -> [u32; 21]
     requires { ⌜ length (now l) ≡ 21 ⌝ }

@@ -108,3 +108,72 @@ pub fn clt_compute_allocation_read(
         AllocRead::Refused(no)
     }
 }
+
+// Writes an allocation: the encoder's intensity and dual stereo are written where they are coded, intensity no more than the coded bands.
+pub fn clt_compute_allocation_write(
+    w: Writer,
+    buf: &mut [u8],
+    c: i32,
+    lm: i32,
+    start: i32,
+    end: i32,
+    trim: i32,
+    total: i32,
+    intensity: i32,
+    dual: i32,
+    previous: i32,
+    bandwidth: i32,
+    offsets: &[i32],
+    caps: &[i32],
+    pulses: &mut [i32],
+    fine: &mut [i32],
+    priorities: &mut [i32],
+) -> AllocWrote
+    ensures { λ r.
+        ⌜ afterWritten r (lists (now (pulses .exit)) (now (fine .exit)) (now (priorities .exit))) (now (buf .exit))
+        ≡ writing (numbers c lm start end trim total) (wishes intensity dual previous bandwidth) (now (offsets .entry)) (now (caps .entry)) (wr w (now (buf .entry))) (lists (now (pulses .entry)) (now (fine .entry)) (now (priorities .entry))) ⌝ }
+{
+    let q = Numbers {
+        c,
+        lm,
+        start,
+        end,
+        trim,
+        total,
+    };
+    let no = gate::refusal_write(
+        w,
+        buf.len(),
+        q,
+        intensity,
+        dual,
+        offsets,
+        caps,
+        pulses.len(),
+        fine.len(),
+        priorities.len(),
+    );
+    if no == 0 {
+        let f = edge::frame_of(q);
+        let offs = edge::counts_of(offsets);
+        let most = edge::counts_of(caps);
+        let first = edge::place_of(intensity);
+        let y = work::write(
+            f,
+            first,
+            0 < dual,
+            previous,
+            bandwidth,
+            w,
+            buf,
+            &offs,
+            &most,
+            pulses,
+            fine,
+            priorities,
+        );
+        AllocWrote::Got(y)
+    } else {
+        AllocWrote::Refused(no)
+    }
+}
