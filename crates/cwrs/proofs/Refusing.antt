@@ -77,7 +77,7 @@ module _ (y : List ℤ) (n k : ℕ) where
 
 -- ---- the call's own number counts only where lengths and numbers are right
 
-late : (a lengths ok numbers lists : Bool) (own p : ℕ) (live told : Bool) → (lengths ≡ true → numbers ≡ true → own ≡ p)
+pub late : (a lengths ok numbers lists : Bool) (own p : ℕ) (live told : Bool) → (lengths ≡ true → numbers ≡ true → own ≡ p)
     → refusal (a && lengths) (ok && numbers) lists own live told ≡ refusal (a && lengths) (ok && numbers) lists p live told
 unfolding refusal
 late false lengths ok numbers lists own p live told e = refl

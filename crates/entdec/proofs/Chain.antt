@@ -31,9 +31,9 @@ sound-ready k d f h =
 pub ready-of : (k : ℕ) (d : Reader) → readerOk d ≡ true → k ≤ 15000 → Ready k d
 ready-of k d e h = sound-ready k d (sound d e) h
 
--- ready for more is ready for one
-pub ready-one : (k : ℕ) (d : Reader) → Ready (suc k) d → Ready 1 d
-ready-one k d r =
+-- ready for more is ready for fewer
+pub ready-less : (k m : ℕ) (d : Reader) → k ≤ m → Ready m d → Ready k d
+ready-less k m d h r =
     record {
       low = r .low;
       top = r .top;
@@ -43,6 +43,9 @@ ready-one k d r =
       front = omega (arith, r .front);
       back = omega (arith, r .back);
     }
+
+pub ready-one : (k : ℕ) (d : Reader) → Ready (suc k) d → Ready 1 d
+ready-one k d r = ready-less 1 (suc k) d (omega arith) r
 
 -- ---- one symbol on
 

@@ -13,7 +13,7 @@ use Rattle.laws.proofs.Division.{div-some, share-le}
 use Rattle.entcode.specs.Range.{ilog, turns, off, wid}
 use Rattle.entcode.specs.Sym.{falls, partsOf, adjust, lowBits}
 use Rattle.entcode.specs.Sym.Shape.{bit, table, uint, raw}
-use Rattle.entcode.proofs.Cuts.{CutOk, Shares, shares}
+use Rattle.entcode.proofs.Cuts.{CutOk, Cut, cut-in}
 use Rattle.entcode.proofs.Falls.{entry}
 use Rattle.entcode.proofs.Parts.{BitsOk, uint-many}
 use Rattle.entenc.specs.Write.{Wr, shiftsW, narrowed, cutW, bitsW}
@@ -26,18 +26,14 @@ coded add rng w = shiftsW (turns rng) (narrowed add rng w)
 
 -- ---- the places fl up to fh of ft
 
-module _ (fl fh ft : ℕ) (w : Wr) where
-  pub cut-zero : fl ≡ 0 → coded 0 (w .st .rng - w .st .rng / ft * (ft - fh)) w ≡ cutW fl fh ft w
-  unfolding cutW off wid
-  cut-zero h = simp (eq-eqb fl 0 h)
-
-  pub cut-more : (fl ≡ 0 → ⊥) → coded (w .st .rng - w .st .rng / ft * (ft - fl)) (w .st .rng / ft * (fh - fl)) w ≡ cutW fl fh ft w
-  unfolding cutW off wid
-  cut-more h = simp (ne-eqb fl 0 h)
+pub cut-is : (fl fh ft : ℕ) (w : Wr) (add rng : ℕ) → add ≡ off (w .st .rng) fl ft → rng ≡ wid (w .st .rng) fl fh ft
+    → coded add rng w ≡ cutW fl fh ft w
+unfolding cutW
+cut-is fl fh ft w add rng p q = rw (p, q)
 
 -- what they take of the range, from what the worker needs
-pub shares-of : {w : Wr} {fl fh ft : ℕ} → Ready 1 w × (fl < fh) × (fh ≤ ft) × (ft ≤ 32768) → Shares (w .st .rng) fl fh ft
-shares-of {w} {fl} {fh} {ft} p = shares (w .st .rng) fl fh ft (p .1) (p .2) (omega (arith, p .0 .sound .low))
+pub cut-of : {w : Wr} {fl fh ft : ℕ} → Ready 1 w × (fl < fh) × (fh ≤ ft) × (ft ≤ 32768) → Cut (w .st .rng) fl fh ft
+cut-of {w} {fl} {fh} {ft} p = cut-in (w .st .rng) fl fh ft (record { lt = p .1; le = p .2; most = p .3 }) (p .0 .sound .low)
 
 -- ---- one bit
 

@@ -5,11 +5,12 @@ use mathlib.Core.List.{List, [], _∷_}
 use native.Mathlib.Nat.{not-suc-le-zero}
 use native.Mathlib.Numerals.{sub-one}
 use native.Mathlib.Omega.{arith}
+use lib.Dec.{ltb}
 use lib.ListN.{replicate, length-set}
 use borrow.Author.Tests.{ltb-true, lt-ltb, le-ltb, eq-eqb, ne-eqb}
 use Rattle.laws.proofs.Tests.{split-on}
 use Rattle.entenc.specs.Out.{Out, isRoom, putFront, putEnd, emit, flushed}
-use Rattle.entenc.specs.Write.{settled}
+use Rattle.entenc.specs.Write.{lead, settled}
 use Rattle.entenc.specs.Ready.{Fit}
 
 -- ---- within the storage
@@ -51,17 +52,23 @@ unfolding emit
 run-done zero b o h = refl
 run-done (suc k) b o h = absurd (not-suc-le-zero h)
 
--- ---- the bytes that settle where c comes: none, the held byte and its run, or a run that no byte leads
+-- ---- the bytes that settle where c comes: none, or the held byte, if there is one, and then its run
+
+module _ (rem k : ℕ) (o : Out) where
+  pub lead-held : rem < 256 → putFront ((rem + k) % 256) o ≡ emit (lead rem k) o
+  unfolding emit
+  lead-held h = simp (lt-ltb _ _ h)
+
+  pub lead-none : 256 ≤ rem → o ≡ emit (lead rem k) o
+  unfolding emit
+  lead-none h = simp (le-ltb _ _ h)
 
 module _ (rem ext c : ℕ) (o : Out) where
   pub settled-not : c ≡ 255 → o ≡ emit (settled rem ext c) o
   unfolding emit
   settled-not h = simp (eq-eqb _ _ h)
 
-  pub settled-held : (c ≡ 255 → ⊥) → rem < 256
-      → emit (replicate ext ((255 + c / 256) % 256)) (putFront ((rem + c / 256) % 256) o) ≡ emit (settled rem ext c) o
+  pub settled-led : (c ≡ 255 → ⊥)
+      → emit (replicate ext ((255 + c / 256) % 256)) (emit (lead rem (c / 256)) o) ≡ emit (settled rem ext c) o
   unfolding emit
-  settled-held h k = simp (ne-eqb _ _ h, lt-ltb _ _ k)
-
-  pub settled-none : (c ≡ 255 → ⊥) → 256 ≤ rem → emit (replicate ext ((255 + c / 256) % 256)) o ≡ emit (settled rem ext c) o
-  settled-none h k = simp (ne-eqb _ _ h, le-ltb _ _ k)
+  settled-led h = split-on (ltb rem 256) (λ t. simp (ne-eqb _ _ h, t)) (λ t. simp (ne-eqb _ _ h, t))

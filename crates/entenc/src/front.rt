@@ -3,24 +3,32 @@ ghost use mathlib.Core.Path.{_≡_};
 ghost use Prim.Native.Nat.{_+_, _<_, _≤_};
 ghost use lib.ListN.{replicate};
 ghost use Rattle.entenc.specs.Out.{out, putFront, emit};
-ghost use Rattle.entenc.specs.Write.{settled, heldBy, runBy};
+ghost use Rattle.entenc.specs.Write.{lead, settled, heldBy, runBy};
 ghost use Rattle.entenc.specs.Ready.{Fit};
 use super::Sink;
 
-// One byte at the front; where the storage is full, the error mark.
+// One byte at the front; where the storage is full, the error mark. Sinks are made anew, field by field: a copy takes along the bytes after
+// the mark, which keeps the whole sink in memory.
 fn put_front(s: Sink, buf: &mut [u8], b: u8) -> Sink
     requires { ⌜ Fit (out s (now buf)) ⌝ }
     ensures { λ r. ⌜ out r (now (buf .exit)) ≡ putFront b (out s (now (buf .entry))) ⌝ }
 {
-    let mut t = s;
-    let at = t.offs as usize;
-    if t.offs + t.ends < t.storage {
+    let at = s.offs as usize;
+    if s.offs + s.ends < s.storage {
         buf[at] = b;
-        t.offs = t.offs + 1;
-        t
+        Sink {
+            storage: s.storage,
+            offs: s.offs + 1,
+            ends: s.ends,
+            error: s.error,
+        }
     } else {
-        t.error = true;
-        t
+        Sink {
+            storage: s.storage,
+            offs: s.offs,
+            ends: s.ends,
+            error: true,
+        }
     }
 }
 
@@ -38,6 +46,18 @@ fn put_run(s: Sink, buf: &mut [u8], b: u8, n: u32) -> Sink
     t
 }
 
+// The held byte with the carry k, where one is held.
+fn put_lead(s: Sink, buf: &mut [u8], rem: u32, k: u32) -> Sink
+    requires { ⌜ Fit (out s (now buf)) × (rem ≤ 256) × (k < 2) ⌝ }
+    ensures { λ r. ⌜ out r (now (buf .exit)) ≡ emit (lead rem k) (out s (now (buf .entry))) ⌝ }
+{
+    if rem < 256 {
+        put_front(s, buf, ((rem + k) % 256) as u8)
+    } else {
+        s
+    }
+}
+
 // The bytes that settle where c, the next byte with a carry at 256, comes after the held byte and its run.
 pub fn carry(s: Sink, buf: &mut [u8], rem: u32, ext: u32, c: u32) -> Sink
     requires { ⌜ Fit (out s (now buf)) × (rem ≤ 256) × (c < 512) ⌝ }
@@ -47,12 +67,8 @@ pub fn carry(s: Sink, buf: &mut [u8], rem: u32, ext: u32, c: u32) -> Sink
         return s;
     }
     let k = c / 256;
-    if rem < 256 {
-        let t = put_front(s, buf, ((rem + k) % 256) as u8);
-        put_run(t, buf, ((255 + k) % 256) as u8, ext)
-    } else {
-        put_run(s, buf, ((255 + k) % 256) as u8, ext)
-    }
+    let t = put_lead(s, buf, rem, k);
+    put_run(t, buf, ((255 + k) % 256) as u8, ext)
 }
 
 // The byte held after c.

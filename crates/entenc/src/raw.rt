@@ -13,15 +13,23 @@ fn put_end(s: Sink, buf: &mut [u8], b: u8) -> Sink
     requires { ⌜ Fit (out s (now buf)) ⌝ }
     ensures { λ r. ⌜ out r (now (buf .exit)) ≡ putEnd b (out s (now (buf .entry))) ⌝ }
 {
-    let mut t = s;
-    if t.offs + t.ends < t.storage {
-        t.ends = t.ends + 1;
-        let at = (t.storage - t.ends) as usize;
+    if s.offs + s.ends < s.storage {
+        let ends = s.ends + 1;
+        let at = (s.storage - ends) as usize;
         buf[at] = b;
-        t
+        Sink {
+            storage: s.storage,
+            offs: s.offs,
+            ends,
+            error: s.error,
+        }
     } else {
-        t.error = true;
-        t
+        Sink {
+            storage: s.storage,
+            offs: s.offs,
+            ends: s.ends,
+            error: true,
+        }
     }
 }
 

@@ -3,18 +3,43 @@ ghost use mathlib.Core.Path.{_≡_};
 ghost use mathlib.Core.Bool.{true};
 ghost use Prim.Native.Nat.{_+_, _^_, _<_, _≤_};
 ghost use lib.ListN.{length};
-ghost use Rattle.entcode.specs.Range.{turns};
+ghost use Rattle.entcode.specs.Range.{turns, off, wid};
 ghost use Rattle.entcode.specs.Sym.{falls};
 ghost use Rattle.entcode.specs.Sym.Shape.{bit, table, uint};
 ghost use Rattle.entenc.specs.Write.{wr, shiftW, shiftsW, narrowed, cutW};
 ghost use Rattle.entenc.specs.Symbols.{writeSym};
 ghost use Rattle.entenc.specs.Ready.{Turning, Ready};
+use super::Sink;
 use super::Writer;
 use super::front::carry;
 use super::front::held_by;
 use super::front::run_by;
 use laws::pow2;
 use laws::wide;
+
+// Where the places from fl of ft begin in a range.
+fn off_of(rng: u32, fl: u32, ft: u32) -> u32
+    requires { ⌜ (fl < ft) × (ft ≤ rng) ⌝ }
+    ensures { λ r. ⌜ r ≡ off rng fl ft ⌝ }
+{
+    if fl == 0 {
+        0
+    } else {
+        rng - rng / ft * (ft - fl)
+    }
+}
+
+// How much of a range the places fl up to fh of ft have.
+fn wid_of(rng: u32, fl: u32, fh: u32, ft: u32) -> u32
+    requires { ⌜ (fl < fh) × (fh ≤ ft) × (ft ≤ rng) ⌝ }
+    ensures { λ r. ⌜ r ≡ wid rng fl fh ft ⌝ }
+{
+    if fl == 0 {
+        rng - rng / ft * (ft - fh)
+    } else {
+        rng / ft * (fh - fl)
+    }
+}
 
 impl Writer {
     // One turn of renormalization.
@@ -25,7 +50,13 @@ impl Writer {
         let c = self.val / 8388608;
         let s = self.sink;
         let t = carry(s, buf, self.rem, self.ext, c);
-        self.sink = t;
+        let fresh = Sink {
+            storage: t.storage,
+            offs: t.offs,
+            ends: t.ends,
+            error: t.error,
+        };
+        self.sink = fresh;
         self.rem = held_by(self.rem, c);
         self.ext = run_by(self.ext, c);
         self.val = self.val % 8388608 * 256;
@@ -61,12 +92,9 @@ impl Writer {
         requires { ⌜ Ready 1 (wr self (now buf)) × (fl < fh) × (fh ≤ ft) × (ft ≤ 32768) ⌝ }
         ensures { λ r. ⌜ wr r (now (buf .exit)) ≡ cutW fl fh ft (wr self (now (buf .entry))) ⌝ }
     {
-        let q = self.rng / ft;
-        if fl == 0 {
-            self.narrow(buf, 0, self.rng - q * (ft - fh))
-        } else {
-            self.narrow(buf, self.rng - q * (ft - fl), q * (fh - fl))
-        }
+        let add = off_of(self.rng, fl, ft);
+        let rng = wid_of(self.rng, fl, fh, ft);
+        self.narrow(buf, add, rng)
     }
 
     // One bit, whose 1 has the upper one of 2^logp parts of the range.

@@ -25,16 +25,7 @@ paired a e = rw e
 -- ---- a reader
 
 pub read-less : (k m : ℕ) (d : Reader) → k ≤ m → dec.Ready m d → dec.Ready k d
-read-less k m d h r =
-    record {
-      low = r .low;
-      top = r .top;
-      inside = r .inside;
-      waits = r .waits;
-      told = omega (arith, r .told);
-      front = omega (arith, r .front);
-      back = omega (arith, r .back);
-    }
+read-less k m d h r = reader.ready-less k m d h r
 
 -- a flag, where it is asked
 pub flag-read : (k : ℕ) (asked : Bool) (s : List ℕ) (d : Reader) {yes : Bool} {next : Reader} → (yes, next) ≡ whenAsked asked (readBit s d) d

@@ -14,8 +14,8 @@ add-if1 c = search needs
 slice-write-buf : tie.Need-slice-write-buf
 slice-write-buf c = search needs
 
-add-t : tie.Need-add-t
-add-t c = search needs
+add-t9 : tie.Need-add-t9
+add-t9 c = search needs
 
 same-length : tie.Need-same-length
 same-length c = search needs
@@ -30,4 +30,4 @@ returns-2 c = simp (le-ltb _ _ (c .if1 .left))
 
 pub put-front-spec : {M : Type 1} → statement M
 put-front-spec =
-    tie.close (tie.spec cast-at add-if1 slice-write-buf add-t same-length returns returns-2)
+    tie.close (tie.spec cast-at add-if1 slice-write-buf add-t9 same-length returns returns-2)

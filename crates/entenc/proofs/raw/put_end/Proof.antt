@@ -8,8 +8,8 @@ use Rattle.entenc.proofs.raw.put_end.Tie as tie
 add-if1 : tie.Need-add-if1
 add-if1 c = search needs
 
-add-t : tie.Need-add-t
-add-t c = search needs
+add-ends : tie.Need-add-ends
+add-ends c = search needs
 
 sub-at : tie.Need-sub-at
 sub-at c = search needs
@@ -33,4 +33,5 @@ returns-2 c = simp (le-ltb _ _ (c .if1 .left))
 
 pub put-end-spec : {M : Type 1} → statement M
 put-end-spec =
-    tie.close (tie.spec add-if1 add-t sub-at cast-at slice-write-buf same-length returns returns-2)
+    tie.close
+    (tie.spec add-if1 add-ends sub-at cast-at slice-write-buf same-length returns returns-2)
