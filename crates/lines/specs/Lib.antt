@@ -1,0 +1,2 @@
+-- A stream of bytes cut into lines.
+pub mod Lines

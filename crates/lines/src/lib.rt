@@ -1,0 +1,50 @@
+// A stream of bytes cut into lines, block by block: workers.
+ghost use mathlib.Core.Path.{_≡_};
+ghost use Prim.Native.Nat.{_≤_};
+ghost use lib.ListN.{length, take};
+ghost use Rattle.lines.specs.Lines.{pushOf, Filled};
+
+// How far a block was taken: the place after what was taken, how many bytes of the line are kept, and whether it has ended.
+pub struct Fed {
+    pub at: usize,
+    pub n: usize,
+    pub done: bool,
+}
+
+// One byte more of the line whose first n bytes stand in `buf`.
+fn push(buf: &mut [u8], n: usize, b: u8) -> usize
+    requires { ⌜ (length (now buf) ≡ 2601) × (n ≤ 2601) ⌝ }
+    ensures { λ r. ⌜ (take r (now (buf .exit)) ≡ pushOf (take n (now (buf .entry))) b) × (r ≤ 2601) ⌝ }
+{
+    if n < 2601 {
+        buf[n] = b;
+        return n + 1;
+    }
+    n
+}
+
+// The block's bytes from `at` on go to the line, up to its end or the block's.
+pub fn fill(block: &[u8], at: usize, buf: &mut [u8], n: usize) -> Fed
+    requires { ⌜ (length (now buf) ≡ 2601) × (n ≤ 2601) × (at ≤ length (now block)) ⌝ }
+    ensures { λ r. ⌜ Filled (now (block .entry)) at (take n (now (buf .entry))) r (take (r .n) (now (buf .exit))) ⌝ }
+{
+    let mut i = at;
+    let mut k = n;
+    while i < block.len() {
+        let b = block[i];
+        if b == 10 {
+            return Fed {
+                at: i + 1,
+                n: k,
+                done: true,
+            };
+        }
+        k = push(buf, k, b);
+        i += 1;
+    }
+    Fed {
+        at: i,
+        n: k,
+        done: false,
+    }
+}

@@ -1,0 +1,4 @@
+pub mod Tabs
+pub mod Values
+pub mod Texts
+pub mod Back
