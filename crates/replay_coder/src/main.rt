@@ -2,6 +2,7 @@
 mod calls;
 
 use calls::Now;
+use replay_io::input;
 
 // A request's first byte and its numbers, against the coder's state.
 fn act(
@@ -47,94 +48,51 @@ fn step(line: &[u8], bytes: &mut [u8], table: &mut [u8], out: &mut [u8], now: No
     }
 }
 
-// The line in the first bytes of its buffer is whole: it is answered, and the next one begins.
-fn answer(line: &[u8], bytes: &mut [u8], table: &mut [u8], out: &mut [u8], now: Now) -> Now {
-    let n = now.length;
-    if n <= line.len() {
-        let done = step(&line[..n], bytes, table, out, now);
-        let left = replay_io::flush(out, done.written, 4096);
-        done.next_line(left)
-    } else {
-        now
-    }
-}
-
-// One byte of the input.
-fn feed(
-    b: u8,
-    line: &mut [u8],
+// Answers the line in the first bytes of its buffer.
+fn answer(
+    line: &[u8],
+    length: usize,
     bytes: &mut [u8],
     table: &mut [u8],
     out: &mut [u8],
     now: Now,
 ) -> Now {
-    if b == b'\n' {
-        answer(line, bytes, table, out, now)
-    } else {
-        let n = replay_io::push(line, now.length, b);
-        now.longer(n)
+    if line.len() < length {
+        return now;
     }
+    let done = step(&line[..length], bytes, table, out, now);
+    let left = replay_io::flush(out, done.written, 4096);
+    done.said(left)
 }
 
-// A block of the input.
-fn feed_all(
-    block: &[u8],
+// Answers each line of the input.
+fn run(
+    block: &mut [u8],
     line: &mut [u8],
     bytes: &mut [u8],
     table: &mut [u8],
     out: &mut [u8],
-    now: Now,
 ) -> Now {
-    let mut t = now;
-    let mut i = 0;
-    while i < block.len() {
-        t = feed(block[i], line, bytes, table, out, t);
-        i += 1;
-    }
-    t
-}
-
-// Reads once and answers what came; false at the end of the input.
-fn turn(
-    line: &mut [u8],
-    bytes: &mut [u8],
-    table: &mut [u8],
-    out: &mut [u8],
-    now: Now,
-) -> calls::Turn {
-    let mut block = io::buffer();
-    let n = replay_io::read_some(&mut block);
-    if n == 0 {
-        return calls::Turn { now, more: false };
-    }
-    let next = feed_all(&block[..n], line, bytes, table, out, now);
-    calls::Turn {
-        now: next,
-        more: true,
-    }
-}
-
-// Reads to the end of the input. Nothing says that it ends, so the turns are counted.
-fn run(line: &mut [u8], bytes: &mut [u8], table: &mut [u8], out: &mut [u8]) -> Now {
     let mut now = calls::fresh();
-    let mut turns: u32 = 1048576;
-    while 0 < turns {
-        let t = turn(line, bytes, table, out, now);
-        now = t.now;
-        if t.more {
-            turns -= 1;
-        } else {
-            turns = 0;
+    let mut t = input::next(block, line, input::begin());
+    let mut lines: u32 = 4294967295;
+    while 0 < lines {
+        if !t.whole {
+            return now;
         }
+        now = answer(line, t.length, bytes, table, out, now);
+        t = input::next(block, line, t);
+        lines -= 1;
     }
     now
 }
 
 fn main() {
+    let mut block = io::large_buffer();
     let mut line = [0u8; 1200];
     let mut bytes = [0u8; 1300];
     let mut table = [0u8; 256];
     let mut out = [0u8; 8192];
-    let end = run(&mut line, &mut bytes, &mut table, &mut out);
+    let end = run(&mut block, &mut line, &mut bytes, &mut table, &mut out);
     replay_io::flush(&out, end.written, 0);
 }

@@ -8,6 +8,10 @@ ghost use Rattle.io.specs.Counts.{Counts};
 ghost use Rattle.io.specs.Digits.{glyph as Digits·glyph};
 ghost use Rattle.replay_io.specs.Text.{joined, Numbered, hexOf};
 
+pub mod floats;
+pub mod input;
+pub mod list;
+
 // A number of a line: its value, and the place after its last figure.
 pub struct Number {
     pub value: u32,
@@ -142,6 +146,16 @@ fn field_of(s: &[u8], next: usize) -> Field {
     Field::Missing
 }
 
+// The number whose figures begin at a place of a line.
+fn figures_at(s: &[u8], from: usize) -> Field {
+    let end = end_of(s, from);
+    if end <= s.len() {
+        field_of(&s[from..end], end)
+    } else {
+        Field::Missing
+    }
+}
+
 // The number after the blank at a place of a line: decimal figures alone, no needless zero, at most 4,294,967,295.
 pub fn number_at(s: &[u8], at: usize) -> Field {
     if s.len() <= at {
@@ -150,13 +164,7 @@ pub fn number_at(s: &[u8], at: usize) -> Field {
     if s[at] != b' ' {
         return Field::Missing;
     }
-    let from = at + 1;
-    let end = end_of(s, from);
-    if end <= s.len() {
-        field_of(&s[from..end], end)
-    } else {
-        Field::Missing
-    }
+    figures_at(s, at + 1)
 }
 
 // The numbers of a line after its first letter, of which the first two are kept; a line with anything else has count 3.

@@ -1,6 +1,8 @@
 // A coder under replay: how it begins and ends, and its answers as text.
 use entdec::Reader;
+use entenc::Sink;
 use entenc::Writer;
+use replay_io::list::word;
 
 pub mod say;
 
@@ -69,5 +71,43 @@ pub fn close(w: Writer, s: &mut [u8], out: &mut [u8], n: usize) -> Done {
             coder: Coder::Writing(w),
             written: say::refused(out, n, no),
         },
+    }
+}
+
+// The reader whose numbers begin a list, in the order in which answers have them.
+pub fn reader_of(l: &[i32]) -> Reader {
+    Reader {
+        storage: word(l, 0),
+        offs: word(l, 1),
+        ends: word(l, 2),
+        window: word(l, 3),
+        waiting: word(l, 4),
+        total: word(l, 5),
+        rng: word(l, 6),
+        val: word(l, 7),
+        ext: word(l, 8),
+        rem: word(l, 9),
+        error: word(l, 10) != 0,
+    }
+}
+
+// The writer whose numbers begin a list.
+pub fn writer_of(l: &[i32]) -> Writer {
+    let sink = Sink {
+        storage: word(l, 0),
+        offs: word(l, 1),
+        ends: word(l, 2),
+        error: word(l, 10) != 0,
+    };
+    Writer {
+        sink,
+        rem: word(l, 9),
+        ext: word(l, 8),
+        val: word(l, 7),
+        rng: word(l, 6),
+        total: word(l, 5),
+        window: word(l, 3),
+        waiting: word(l, 4),
+        closed: word(l, 11) != 0,
     }
 }

@@ -32,6 +32,18 @@ pub fn signed(out: &mut [u8], n: usize, v: i32) -> usize {
     }
 }
 
+// A blank and a stroke, and then each number of a list.
+pub fn list(out: &mut [u8], n: usize, l: &[i32]) -> usize {
+    let mut k = replay_io::push_all(out, n, b" |");
+    let mut i = 0;
+    while i < l.len() {
+        let v = l[i];
+        k = signed(out, k, v);
+        i += 1;
+    }
+    k
+}
+
 // What tell or tell_frac says; X before the number of a refusal.
 fn told(out: &mut [u8], n: usize, t: Told) -> usize {
     match t {

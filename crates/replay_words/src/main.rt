@@ -8,6 +8,7 @@ use entdec::Reader;
 use entenc::Writer;
 use now::Now;
 use replay_io::Asked;
+use replay_io::input;
 use replay_state::Coder;
 
 // S: a new writer over some bytes.
@@ -187,94 +188,51 @@ fn step(line: &[u8], bytes: &mut [u8], places: &mut [i32], out: &mut [u8], now: 
     }
 }
 
-// The line in the first bytes of its buffer is whole: it is answered, and the next one begins.
-fn answer(line: &[u8], bytes: &mut [u8], places: &mut [i32], out: &mut [u8], now: Now) -> Now {
-    let n = now.length;
-    if n <= line.len() {
-        let done = step(&line[..n], bytes, places, out, now);
-        let left = replay_io::flush(out, done.written, 4096);
-        done.next_line(left)
-    } else {
-        now
-    }
-}
-
-// One byte of the input.
-fn feed(
-    b: u8,
-    line: &mut [u8],
+// Answers the line in the first bytes of its buffer.
+fn answer(
+    line: &[u8],
+    length: usize,
     bytes: &mut [u8],
     places: &mut [i32],
     out: &mut [u8],
     now: Now,
 ) -> Now {
-    if b == b'\n' {
-        answer(line, bytes, places, out, now)
-    } else {
-        let n = replay_io::push(line, now.length, b);
-        now.longer(n)
+    if line.len() < length {
+        return now;
     }
+    let done = step(&line[..length], bytes, places, out, now);
+    let left = replay_io::flush(out, done.written, 4096);
+    done.said(left)
 }
 
-// A block of the input.
-fn feed_all(
-    block: &[u8],
+// Answers each line of the input.
+fn run(
+    block: &mut [u8],
     line: &mut [u8],
     bytes: &mut [u8],
     places: &mut [i32],
     out: &mut [u8],
-    now: Now,
 ) -> Now {
-    let mut t = now;
-    let mut i = 0;
-    while i < block.len() {
-        t = feed(block[i], line, bytes, places, out, t);
-        i += 1;
-    }
-    t
-}
-
-// Reads once and answers what came; false at the end of the input.
-fn turn(
-    line: &mut [u8],
-    bytes: &mut [u8],
-    places: &mut [i32],
-    out: &mut [u8],
-    now: Now,
-) -> now::Turn {
-    let mut block = io::buffer();
-    let n = replay_io::read_some(&mut block);
-    if n == 0 {
-        return now::Turn { now, more: false };
-    }
-    let next = feed_all(&block[..n], line, bytes, places, out, now);
-    now::Turn {
-        now: next,
-        more: true,
-    }
-}
-
-// Reads to the end of the input. Nothing says that it ends, so the turns are counted.
-fn run(line: &mut [u8], bytes: &mut [u8], places: &mut [i32], out: &mut [u8]) -> Now {
     let mut now = now::fresh();
-    let mut turns: u32 = 1048576;
-    while 0 < turns {
-        let t = turn(line, bytes, places, out, now);
-        now = t.now;
-        if t.more {
-            turns -= 1;
-        } else {
-            turns = 0;
+    let mut t = input::next(block, line, input::begin());
+    let mut lines: u32 = 4294967295;
+    while 0 < lines {
+        if !t.whole {
+            return now;
         }
+        now = answer(line, t.length, bytes, places, out, now);
+        t = input::next(block, line, t);
+        lines -= 1;
     }
     now
 }
 
 fn main() {
+    let mut block = io::large_buffer();
     let mut line = [0u8; 100];
     let mut bytes = [0u8; 1300];
     let mut places = [0i32; 176];
     let mut out = [0u8; 8192];
-    let end = run(&mut line, &mut bytes, &mut places, &mut out);
+    let end = run(&mut block, &mut line, &mut bytes, &mut places, &mut out);
     replay_io::flush(&out, end.written, 0);
 }

@@ -3,9 +3,8 @@ use replay_state::Coder;
 use replay_state::Done;
 use replay_state::say;
 
-// The bytes of the line so far, those of the text to write, the storage, the pair of Laplace values, and the coder.
+// The bytes of the text to write, the storage, the pair of Laplace values, and the coder.
 pub struct Now {
-    pub length: usize,
     pub written: usize,
     pub storage: usize,
     pub fs: u32,
@@ -13,16 +12,9 @@ pub struct Now {
     pub coder: Coder,
 }
 
-// Where it stands after a read of the input, and whether more may come.
-pub struct Turn {
-    pub now: Now,
-    pub more: bool,
-}
-
 // Before the first request.
 pub fn fresh() -> Now {
     Now {
-        length: 0,
         written: 0,
         storage: 0,
         fs: 0,
@@ -32,19 +24,6 @@ pub fn fresh() -> Now {
 }
 
 impl Now {
-    // More of the line.
-    pub fn longer(mut self, length: usize) -> Now {
-        self.length = length;
-        self
-    }
-
-    // The next line, with what is left of the text.
-    pub fn next_line(mut self, written: usize) -> Now {
-        self.length = 0;
-        self.written = written;
-        self
-    }
-
     // A longer text.
     pub fn said(mut self, written: usize) -> Now {
         self.written = written;
@@ -61,7 +40,6 @@ impl Now {
     // Another coder and a longer text.
     pub fn turned(self, coder: Coder, written: usize) -> Now {
         Now {
-            length: self.length,
             written,
             storage: self.storage,
             fs: self.fs,

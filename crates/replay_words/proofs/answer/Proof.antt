@@ -4,6 +4,9 @@ use lib.Seq.{length-take-le}
 use Rattle.replay_words.proofs.answer.Statement.{statement}
 use Rattle.replay_words.proofs.answer.Tie as tie
 
+returns : tie.Need-returns
+returns c = search needs
+
 slice-aggregate-step : tie.Need-slice-aggregate-step
 slice-aggregate-step c = search (needs, length-take-le)
 
@@ -13,8 +16,8 @@ step-requires c κs = search needs
 flush-requires : tie.Need-flush-requires
 flush-requires c κs = search needs
 
-next-line-requires : tie.Need-next-line-requires
-next-line-requires c κs = search needs
+said-requires : tie.Need-said-requires
+said-requires c κs = search needs
 
 same-length : tie.Need-same-length
 same-length c = search needs
@@ -25,9 +28,6 @@ same-length-2 c = search needs
 same-length-3 : tie.Need-same-length-3
 same-length-3 c = search needs
 
-returns : tie.Need-returns
-returns c = search needs
-
 returns-2 : tie.Need-returns-2
 returns-2 c = search needs
 
@@ -35,12 +35,12 @@ pub answer-spec : {M : Type 1} → statement M
 answer-spec =
     tie.close
     (tie.spec
+    returns
     slice-aggregate-step
     step-requires
     flush-requires
-    next-line-requires
+    said-requires
     same-length
     same-length-2
     same-length-3
-    returns
     returns-2)

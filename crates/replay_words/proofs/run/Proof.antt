@@ -1,4 +1,4 @@
--- `replay_words::run` is safe and ends. The measure is the turns that are left. Assumes nothing.
+-- `replay_words::run` is safe and ends. The measure is the lines that may still come. Assumes nothing.
 use borrow.Author.Needs.{needs}
 use mathlib.Core.Path.{_≡_}
 use lib.ListN.{length}
@@ -6,34 +6,23 @@ use Rattle.replay_words.proofs.run.Statement.{statement}
 use Rattle.replay_words.proofs.run.Tie as tie
 
 abbrev Inv-loop : tie.InvT-loop
-Inv-loop line₀ bytes₀ places₀ out₀ now₀ turns₀ line bytes places out now turns = (length line ≡ length line₀) × (length bytes ≡ length bytes₀) × (length places ≡ length places₀) × (length out ≡ length out₀)
+Inv-loop block₀ line₀ bytes₀ places₀ out₀ now₀ t₀ lines₀ block line bytes places out now t lines =
+    (length block ≡ length block₀) × (length line ≡ length line₀) × (length bytes ≡ length bytes₀) × (length places ≡ length places₀) × (length out ≡ length out₀)
 
 abbrev μ-loop : tie.MeasureT-loop
-μ-loop line₀ bytes₀ places₀ out₀ now₀ turns₀ line bytes places out now turns = turns
+μ-loop block₀ line₀ bytes₀ places₀ out₀ now₀ t₀ lines₀ block line bytes places out now t lines = lines
 
 fresh-requires : tie.Need-fresh-requires Inv-loop μ-loop
 fresh-requires c κs = search needs
 
+begin-requires : tie.Need-begin-requires Inv-loop μ-loop
+begin-requires c κs = search needs
+
+next-requires : tie.Need-next-requires Inv-loop μ-loop
+next-requires c κs = search needs
+
 loop-holds : tie.Need-loop-holds Inv-loop μ-loop
 loop-holds c = search needs
-
-turn-requires : tie.Need-turn-requires Inv-loop μ-loop
-turn-requires c κs = search needs
-
-sub-turns : tie.Need-sub-turns Inv-loop μ-loop
-sub-turns c = search needs
-
-loop-less : tie.Need-loop-less Inv-loop μ-loop
-loop-less c = search needs
-
-loop-again : tie.Need-loop-again Inv-loop μ-loop
-loop-again c = search needs
-
-loop-less-2 : tie.Need-loop-less-2 Inv-loop μ-loop
-loop-less-2 c = search needs
-
-loop-again-2 : tie.Need-loop-again-2 Inv-loop μ-loop
-loop-again-2 c = search needs
 
 same-length : tie.Need-same-length Inv-loop μ-loop
 same-length c = search needs
@@ -47,8 +36,44 @@ same-length-3 c = search needs
 same-length-4 : tie.Need-same-length-4 Inv-loop μ-loop
 same-length-4 c = search needs
 
+same-length-5 : tie.Need-same-length-5 Inv-loop μ-loop
+same-length-5 c = search needs
+
 returns : tie.Need-returns Inv-loop μ-loop
 returns c = search needs
+
+answer-requires : tie.Need-answer-requires Inv-loop μ-loop
+answer-requires c κs = search needs
+
+next-requires-2 : tie.Need-next-requires-2 Inv-loop μ-loop
+next-requires-2 c κs = search needs
+
+sub-lines : tie.Need-sub-lines Inv-loop μ-loop
+sub-lines c = search needs
+
+loop-less : tie.Need-loop-less Inv-loop μ-loop
+loop-less c = search needs
+
+loop-again : tie.Need-loop-again Inv-loop μ-loop
+loop-again c = search needs
+
+same-length-6 : tie.Need-same-length-6 Inv-loop μ-loop
+same-length-6 c = search needs
+
+same-length-7 : tie.Need-same-length-7 Inv-loop μ-loop
+same-length-7 c = search needs
+
+same-length-8 : tie.Need-same-length-8 Inv-loop μ-loop
+same-length-8 c = search needs
+
+same-length-9 : tie.Need-same-length-9 Inv-loop μ-loop
+same-length-9 c = search needs
+
+same-length-10 : tie.Need-same-length-10 Inv-loop μ-loop
+same-length-10 c = search needs
+
+returns-2 : tie.Need-returns-2 Inv-loop μ-loop
+returns-2 c = search needs
 
 pub run-spec : {M : Type 1} → statement M
 run-spec =
@@ -57,15 +82,23 @@ run-spec =
     Inv-loop
     μ-loop
     fresh-requires
+    begin-requires
+    next-requires
     loop-holds
-    turn-requires
-    sub-turns
-    loop-less
-    loop-again
-    loop-less-2
-    loop-again-2
     same-length
     same-length-2
     same-length-3
     same-length-4
-    returns)
+    same-length-5
+    returns
+    answer-requires
+    next-requires-2
+    sub-lines
+    loop-less
+    loop-again
+    same-length-6
+    same-length-7
+    same-length-8
+    same-length-9
+    same-length-10
+    returns-2)

@@ -114,7 +114,7 @@ fn by_libopus(bytes: &mut [u8], at: ec_ctx_saved, call: &Call) -> Left {
 }
 
 /// The state's eleven numbers in the port's encoding and order.
-fn numbers(at: &ec_ctx_saved) -> [u32; 11] {
+pub fn numbers(at: &ec_ctx_saved) -> [u32; 11] {
     let rem = if at.rem < 0 { 256 } else { at.rem as u32 };
     let error = (at.error != 0) as u32;
     [

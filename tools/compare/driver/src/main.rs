@@ -1,10 +1,19 @@
 //! Records the oracles' answers, and holds a program's answers against them. Each kind of request is a module: it makes request lines
 //! from a seed, and it answers a line as the oracles do.
+mod alloc;
+mod alloc_sequences;
 mod coder;
 mod coder_sequences;
+mod energy;
+mod energy_sequences;
 mod laplace_sequences;
+mod listing;
+mod listing_sequences;
 mod pulse_sequences;
 mod random;
+mod shape;
+mod shape_sequences;
+mod states;
 mod words;
 
 use std::io::{Read, Write};
@@ -13,7 +22,7 @@ use std::process::{Command, Stdio};
 /// Request lines that stand for themselves: no answer depends on an earlier sequence.
 pub type Sequence = Vec<String>;
 
-/// Whoever answers request lines. A line that only prepares a later one has no answer.
+/// Whoever answers request lines. A line that only prepares a later one has no answer; an answer may have several lines.
 pub trait Side {
     fn answer(&mut self, line: &str) -> Option<String>;
 }
@@ -24,20 +33,52 @@ struct Kind {
     sequences: fn(&mut random::Random) -> Vec<Sequence>,
     oracle: fn() -> Box<dyn Side>,
     figures: fn(&[Sequence]) -> Vec<String>,
+    /// The recorded input ends without a line feed.
+    open_end: bool,
 }
 
-const KINDS: [Kind; 2] = [
+const KINDS: [Kind; 6] = [
     Kind {
         name: "coder",
         sequences: coder_sequences::all,
         oracle: || Box::new(coder::Oracle::new()),
         figures: coder_sequences::figures,
+        open_end: false,
     },
     Kind {
         name: "words",
         sequences: |r| [laplace_sequences::all(r), pulse_sequences::all(r)].concat(),
         oracle: || Box::new(words::Oracle::new()),
         figures: |list| [laplace_sequences::figures(list), pulse_sequences::figures(list)].concat(),
+        open_end: false,
+    },
+    Kind {
+        name: "alloc",
+        sequences: alloc_sequences::all,
+        oracle: || Box::new(alloc::Oracle),
+        figures: alloc_sequences::figures,
+        open_end: false,
+    },
+    Kind {
+        name: "listing",
+        sequences: listing_sequences::all,
+        oracle: || Box::new(listing::Oracle(0)),
+        figures: listing_sequences::figures,
+        open_end: true,
+    },
+    Kind {
+        name: "energy",
+        sequences: energy_sequences::all,
+        oracle: || Box::new(energy::Oracle),
+        figures: energy_sequences::figures,
+        open_end: false,
+    },
+    Kind {
+        name: "shape",
+        sequences: shape_sequences::all,
+        oracle: || Box::new(shape::Oracle),
+        figures: shape_sequences::figures,
+        open_end: false,
     },
 ];
 
@@ -51,7 +92,8 @@ fn fail(text: &str) -> ! {
 
 fn answers(kind: &Kind, lines: &[String]) -> Vec<String> {
     let mut side = (kind.oracle)();
-    lines.iter().filter_map(|line| side.answer(line)).collect()
+    let said: Vec<String> = lines.iter().filter_map(|line| side.answer(line)).collect();
+    said.iter().flat_map(|text| text.lines()).map(str::to_string).collect()
 }
 
 fn joined(lines: &[String]) -> String {
@@ -62,7 +104,11 @@ fn record(kind: &Kind, folder: &str) {
     let sequences = (kind.sequences)(&mut random::Random::new(SEED));
     let lines = sequences.concat();
     let said = answers(kind, &lines);
-    for (name, text) in [("stdin", joined(&lines)), ("stdout", joined(&said))] {
+    let mut asked = joined(&lines);
+    if kind.open_end {
+        asked.pop();
+    }
+    for (name, text) in [("stdin", asked), ("stdout", joined(&said))] {
         let path = format!("{folder}/{name}");
         std::fs::write(&path, &text).unwrap_or_else(|e| fail(&format!("{path}: {e}")));
         eprintln!("{path}: {} lines, {} bytes", text.lines().count(), text.len());
@@ -102,12 +148,14 @@ fn shown(kind: &Kind, sequence: &Sequence, said: &[String]) -> Option<String> {
     let mut side = (kind.oracle)();
     let mut place = 0;
     for (at, line) in sequence.iter().enumerate() {
-        let Some(right) = side.answer(line) else { continue };
-        let other = said.get(place).map_or("(nothing)", |s| s.as_str());
-        if right != other {
-            return Some(format!("{}oracle:  {right}\nprogram: {other}", joined(&sequence[..=at])));
+        let Some(answer) = side.answer(line) else { continue };
+        for right in answer.lines() {
+            let other = said.get(place).map_or("(nothing)", |s| s.as_str());
+            if right != other {
+                return Some(format!("{}oracle:  {right}\nprogram: {other}", joined(&sequence[..=at])));
+            }
+            place += 1;
         }
-        place += 1;
     }
     (place < said.len()).then(|| format!("{}the program wrote more: {}", joined(sequence), said[place]))
 }
@@ -125,7 +173,7 @@ fn compare(kind: &Kind, program: &str, seed: u64, rounds: u64) {
         }
         // The sequences run one by one, the shortest first, so that the smallest input is shown.
         let mut list = list;
-        list.sort_by_key(Vec::len);
+        list.sort_by_key(|sequence| (sequence.len(), sequence.iter().map(String::len).sum::<usize>()));
         for sequence in &list {
             if let Some(text) = shown(kind, sequence, &run(program, sequence)) {
                 print!("{text}\n");

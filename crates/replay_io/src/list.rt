@@ -1,0 +1,125 @@
+// Lists of whole numbers on a line.
+use super::Field;
+use super::Number;
+use super::figures_at;
+ghost use Prim.Native.Nat.{_≤_};
+
+// A number of a line and the place after it.
+pub struct Entry {
+    pub value: i32,
+    pub next: usize,
+    pub good: bool,
+}
+
+// No number.
+fn none() -> Entry {
+    Entry {
+        value: 0,
+        next: 0,
+        good: false,
+    }
+}
+
+// A number in 32 bits: from 2,147,483,648 on it is kept as what it is less than 4,294,967,296.
+fn kept(n: u32) -> i32 {
+    if n < 2147483648 {
+        laws::value_of(false, n)
+    } else {
+        laws::value_of(true, std::num::wrapping_sub_u32(0, n))
+    }
+}
+
+// A number without a minus before it.
+fn plain(f: Field) -> Entry {
+    match f {
+        Field::Is(x) => Entry {
+            value: kept(x.value),
+            next: x.next,
+            good: true,
+        },
+        Field::Missing => none(),
+    }
+}
+
+// A number whose minus was read.
+fn below_zero(x: Number) -> Entry {
+    if x.value <= 2147483648 {
+        Entry {
+            value: laws::value_of(true, x.value),
+            next: x.next,
+            good: true,
+        }
+    } else {
+        none()
+    }
+}
+
+// The number after the blank at a place: -2,147,483,648..4,294,967,295.
+fn entry_at(s: &[u8], at: usize) -> Entry {
+    if s.len() <= at {
+        return none();
+    }
+    if s[at] != b' ' {
+        return none();
+    }
+    if laws::byte_at(s, at + 1) != 45 {
+        return plain(figures_at(s, at + 1));
+    }
+    match figures_at(s, at + 2) {
+        Field::Is(x) => below_zero(x),
+        Field::Missing => none(),
+    }
+}
+
+// The numbers of a line from a place on go into the list; how many, or more than the list holds where the line is malformed or longer.
+pub fn read(line: &[u8], from: usize, list: &mut [i32]) -> usize {
+    let mut at = from;
+    let mut k = 0;
+    while k < list.len() {
+        if line.len() <= at {
+            return k;
+        }
+        let e = entry_at(line, at);
+        if !e.good {
+            return 4294967296;
+        }
+        let v = e.value;
+        list[k] = v;
+        at = e.next;
+        k += 1;
+    }
+    if line.len() <= at { k } else { 4294967296 }
+}
+
+// The entry at a place, and 0 past the end.
+pub fn at(list: &[i32], i: usize) -> i32 {
+    if i < list.len() { list[i] } else { 0 }
+}
+
+// The same, as a number from 0 to 4,294,967,295.
+pub fn word(list: &[i32], i: usize) -> u32 {
+    let v = at(list, i);
+    let n = laws::size(v);
+    if v < 0 {
+        std::num::wrapping_sub_u32(0, n)
+    } else {
+        n
+    }
+}
+
+// The length that an entry names, and no more than there is room for.
+pub fn length_at(list: &[i32], i: usize, most: usize) -> usize
+    ensures { λ r. ⌜ r ≤ most ⌝ }
+{
+    let n = word(list, i) as usize;
+    if n <= most { n } else { most }
+}
+
+// The entries as bytes, each by its lowest eight bits.
+pub fn bytes_of(list: &[i32], s: &mut [u8]) {
+    let mut i = 0;
+    while i < s.len() {
+        s[i] = (word(list, i) % 256) as u8;
+        i += 1;
+    }
+}
