@@ -1,0 +1,12 @@
+pub mod Stepping
+pub mod BandKind
+pub mod Banded
+pub mod Offsets
+pub mod Spent
+pub mod Ranged
+pub mod Accepts
+pub mod Outside
+pub mod Bounds
+pub mod Largest
+pub mod Finite
+pub mod Figures
