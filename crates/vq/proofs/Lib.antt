@@ -1,0 +1,10 @@
+pub mod Squares
+pub mod Quotient
+pub mod Spacing
+pub mod Nearer
+pub mod Only
+pub mod Refusing
+pub mod Vectors
+pub mod Masks
+pub mod Finite
+pub mod Figures

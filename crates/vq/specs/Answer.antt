@@ -1,0 +1,88 @@
+-- What the call is asked, when it is refused and what it answers, by document 01's number and the values, and what the lent shape then holds.
+use Prim.Native.Nat.{ℕ, zero, suc, _*_, _%_}
+use mathlib.Core.Bool.{Bool, cond, _&&_}
+use mathlib.Core.List.{List}
+use lib.Dec.{ltb, eqb}
+use lib.IntN.{ℤ, pos}
+use lib.ListN.{length}
+use lib.Signed.{leZ}
+use lib.Ieee.{Float, neg, le}
+use Rattle.laws.specs.Signs.{clip, inRange}
+use Rattle.entdec.specs.declared.Reader.{Reader}
+use Rattle.entdec.specs.Rule.{readRefusal}
+use Rattle.cwrs.specs.Count.{Vn}
+use Rattle.cwrs.specs.Answer.{readIndex, readWord}
+use Rattle.vq.specs.Shape.{one, shapeOf}
+use Rattle.vq.specs.Mask.{collapse}
+use Rattle.vq.specs.declared.ReadShape.{ReadShape}
+use Rattle.vq.specs.declared.Shaped.{Shaped}
+use Rattle.vq.specs.declared.Shaped.the-variants.{Got, Refused}
+
+-- what the call is asked, as it is handed in
+pub record Asked : Type 0 where
+  pub n : ℤ
+  pub k : ℤ
+  pub spread : ℤ
+  pub b : ℤ
+  pub gain : Float
+
+abbrev pub asked : ℤ → ℤ → ℤ → ℤ → Float → Asked
+asked n k spread b gain = record { n = n; k = k; spread = spread; b = b; gain = gain }
+
+-- ---- the tests
+
+-- a lent shape has length N, whatever N is (2)
+abbrev pub lengthOk : ℤ → ℕ → Bool
+lengthOk n places = leZ (pos 0) n && eqb (clip n) places
+
+-- B 1..16 dividing N
+abbrev pub partsOk : ℤ → ℤ → Bool
+partsOk n b = inRange (pos 1) (pos 16) b && eqb (clip n % clip b) 0
+
+-- N 2..176, K 1..128, spread 0..3, and the parts (1)
+unfoldable pub numbersOk : ℤ → ℤ → ℤ → ℤ → Bool
+numbersOk n k spread b = inRange (pos 2) (pos 176) n && inRange (pos 1) (pos 128) k && inRange (pos 0) (pos 3) spread && partsOk n b
+
+-- the gain is at most 1 in size; a NaN is in no order and an infinity is past 1, so it is finite too (3)
+abbrev pub gainOk : Float → Bool
+gainOk gain = le (neg one) gain && le gain one
+
+-- V(N,K) is below 2^32, or 7; and then no rotation is due, or 9: one is where 2K < N and spread is not 0
+unfoldable pub ownShape : ℕ → ℕ → ℕ → ℕ
+ownShape n k spread = cond (ltb (Vn n k) 4294967296) (cond (ltb (2 * k) n && ltb 0 spread) 9 0) 7
+
+-- the number of the refusal, 0 for none, of a shape of so many places
+unfoldable pub refusalShape : Asked → ℕ → List ℕ → Reader → ℕ
+refusalShape q places s d =
+    readRefusal (length s) d (lengthOk (q .n) places) (numbersOk (q .n) (q .k) (q .spread) (q .b)) (gainOk (q .gain))
+    (ownShape (clip (q .n)) (clip (q .k)) (clip (q .spread)))
+
+-- ---- the answer
+
+-- the collapse mask of the vector read, and the reader after it
+abbrev pub readShapeOf : ℕ → ℕ → ℕ → List ℕ → Reader → ReadShape
+readShapeOf n k b s d = record { mask = collapse b (readWord n k s d); next = readIndex n k s d .next }
+
+-- an answer, and the lent shape after the call
+pub record Formed : Type 0 where
+  pub said : Shaped
+  pub shape : List Float
+
+abbrev pub formed : Shaped → List Float → Formed
+formed r x = record { said = r; shape = x }
+
+-- number 0: what was read, with its shape; any other: that refusal, and the shape as it was
+unfoldable pub answer : ℕ → ReadShape → List Float → List Float → Formed
+answer zero r v x = formed (Got r) v
+answer (suc m) r v x = formed (Refused (suc m)) x
+
+-- the whole call over the packet s, the reader d and the lent shape x
+abbrev pub unquantised : Asked → List ℕ → Reader → List Float → Formed
+unquantised q s d x =
+    answer (refusalShape q (length x) s d) (readShapeOf (clip (q .n)) (clip (q .k)) (clip (q .b)) s d)
+    (shapeOf (q .gain) (readWord (clip (q .n)) (clip (q .k)) s d)) x
+
+-- document 01's number of an answer, 0 where it is no refusal
+abbrev pub numberOf : Shaped → ℕ
+numberOf (Got r) = 0
+numberOf (Refused m) = m
