@@ -1,0 +1,5 @@
+pub mod Exact
+pub mod Energies
+pub mod Placed
+pub mod Round
+pub mod Sound

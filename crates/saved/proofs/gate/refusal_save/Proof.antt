@@ -1,0 +1,22 @@
+-- `saved::gate::refusal_save`: the tests, in the order of the refusals. Assumes nothing.
+use Rattle.saved.specs.Lines.{refusalSave}
+use borrow.Author.Needs.{needs}
+use Rattle.saved.proofs.gate.refusal_save.Statement.{statement}
+use Rattle.saved.proofs.gate.refusal_save.Tie as tie
+
+slice-aggregate-all-finite : tie.Need-slice-aggregate-all-finite
+slice-aggregate-all-finite c = search needs
+
+all-finite-requires : tie.Need-all-finite-requires
+all-finite-requires c κs = search needs
+
+refusal-of-requires : tie.Need-refusal-of-requires
+refusal-of-requires c κs = search needs
+
+returns : tie.Need-returns
+unfolding refusalSave
+returns c = rw (c .before .before .all-finite .ensures) at (c .refusal-of .ensures)
+
+pub refusal-save-spec : {M : Type 1} → statement M
+refusal-save-spec =
+    tie.close (tie.spec slice-aggregate-all-finite all-finite-requires refusal-of-requires returns)

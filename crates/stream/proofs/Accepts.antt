@@ -1,0 +1,53 @@
+-- What an accepted frame tells of its numbers, and an answer by its number. Assumes nothing.
+use Prim.Native.Nat.{ℕ, zero, suc, _+_, _≤_}
+use mathlib.Core.Path.{_≡_, refl, ap}
+use mathlib.Core.Bool.{true, and-eq-true-iff}
+use mathlib.Core.List.{List}
+use native.Mathlib.Omega.{arith}
+use lib.Ieee.{Float}
+use lib.IntN.{ℤ}
+use borrow.Author.Tests.{leb-true}
+use Rattle.laws.specs.Signs.{clip}
+use Rattle.entdec.specs.declared.Reader.{Reader}
+use Rattle.quant_bands.specs.Coarse.{Decoded, decoded, coarse}
+use Rattle.quant_bands.specs.Question.{coarseOk, isIntra}
+use Rattle.stream.specs.declared.Record.{Record}
+use Rattle.stream.specs.declared.Framed.{Framed}
+use Rattle.stream.specs.Frame.{Call, numbersOk, applied, refused, answer}
+
+-- ---- numbers
+
+-- each of the tests by itself
+pub record Known (next number : ℕ) (c lm start end intra : ℤ) : Type 0 where
+  pub coarse : coarseOk c lm start end intra ≡ true
+  pub last : number ≤ 4294967294
+  pub most : next ≤ 4294967295
+
+pub known : (next number : ℕ) (c lm start end intra : ℤ) → numbersOk next number c lm start end intra ≡ true → Known next number c lm start end intra
+unfolding numbersOk
+known next number c lm start end intra e =
+    let a = and-eq-true-iff _ _ .0 e in
+    let b = and-eq-true-iff _ _ .0 (a .0) in
+    record { coarse = b .0; last = leb-true number 4294967294 (b .1); most = leb-true next 4294967295 (a .1) }
+
+-- ---- answers
+
+-- the worker's decode, in the record
+pub made : (r : Record) (d : Reader) (s : List ℕ) (c lm start end intra : ℤ) {es : List Float} {y : Reader}
+    → decoded es y ≡ coarse (clip c) (clip lm) (isIntra intra) (clip start) (clip end) s d (r .energies)
+    → _≡_ {A = Framed} (record { code = 0; rec = record { energies = es; next = r .next + 1 }; next = y }) (applied r d s c lm start end intra)
+made r d s c lm start end intra e = ap (framedBy r) e
+  where
+    framedBy : Record → Decoded → Framed
+    framedBy r x = record { code = 0; rec = record { energies = x .energies; next = r .next + 1 }; next = x .next }
+
+pub got : (n : ℕ) (r : Record) (q : Call) {y : Framed} → n ≡ 0 → y ≡ applied r (q .coder) (q .packet) (q .c) (q .lm) (q .start) (q .end) (q .intra)
+    → y ≡ answer n r q
+unfolding answer
+got zero r q h e = e
+got (suc n) r q h e = absurd (omega arith)
+
+pub turned-down : (n : ℕ) (r : Record) (q : Call) → (n ≡ 0 → ⊥) → refused n r (q .coder) ≡ answer n r q
+unfolding answer
+turned-down zero r q h = absurd (h refl)
+turned-down (suc n) r q h = refl

@@ -1,0 +1,5 @@
+pub mod Accepts
+pub mod Once
+pub mod Again
+pub mod Mono
+pub mod Uses

@@ -1,0 +1,38 @@
+-- `stream::gate::refusal`: the tests, in the order of the refusals. Assumes nothing.
+use mir.Facts.{toZ-ofZ}
+use borrow.Author.Needs.{needs}
+use Rattle.stream.proofs.gate.refusal.Statement.{statement}
+use Rattle.stream.proofs.gate.refusal.Tie as tie
+
+numbers-ok-requires : tie.Need-numbers-ok-requires
+numbers-ok-requires c κs = search needs
+
+slice-aggregate-all-finite : tie.Need-slice-aggregate-all-finite
+slice-aggregate-all-finite c = search needs
+
+all-finite-requires : tie.Need-all-finite-requires
+all-finite-requires c κs = search needs
+
+order-requires : tie.Need-order-requires
+order-requires c κs = search needs
+
+refusal-requires : tie.Need-refusal-requires
+refusal-requires c κs = search needs
+
+returns : tie.Need-returns
+returns c =
+    let n = c .before .before .before .before in
+    let f = n .before .before .fits in
+    let e = rw (toZ-ofZ (f .c), toZ-ofZ (f .lm), toZ-ofZ (f .start), toZ-ofZ (f .end), toZ-ofZ (f .intra)) at (n .numbers-ok .ensures) in
+    rw (e, c .before .before .all-finite .ensures, c .before .order .ensures) at (c .refusal .ensures)
+
+pub refusal-spec : {M : Type 1} → statement M
+refusal-spec =
+    tie.close
+    (tie.spec
+    numbers-ok-requires
+    slice-aggregate-all-finite
+    all-finite-requires
+    order-requires
+    refusal-requires
+    returns)

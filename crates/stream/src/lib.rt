@@ -1,0 +1,76 @@
+// The stream record: the energies of the frame before, and the number of the frame that comes next. Document 01, "The stream record".
+ghost use mathlib.Core.Path.{_≡_};
+ghost use Rattle.stream.specs.Frame.{fresh, orderOf, call, framed};
+use entdec::Reader;
+
+pub mod gate;
+pub mod work;
+
+// 42 energies, channel 1 from place 21 on, and the number of the frame that comes next. The number is a u64, so that one past 4,294,967,295
+// can be handed in, and is refused.
+pub struct Record {
+    pub energies: [f32; 42],
+    pub next: u64,
+}
+
+// What a frame answers: code 0, the record and the reader after it; or the number of the refusal, and both as they were. (An enum may hold no
+// array.)
+pub struct Framed {
+    pub code: u32,
+    pub rec: Record,
+    pub next: Reader,
+}
+
+// THE PLACE WHERE A REPEAT IS REFUSED. A frame's number must be the record's next: one below it was applied before and is refused as 10, one
+// above it would leave a gap and is refused as 11. 0 for the next number itself.
+pub fn order(next: u64, number: u64) -> u32
+    ensures { λ r. ⌜ r ≡ orderOf next number ⌝ }
+{
+    if number < next {
+        return 10;
+    }
+    if next < number {
+        return 11;
+    }
+    0
+}
+
+impl Record {
+    // A record to which no frame was applied: energies of zero, and number 0 comes next.
+    pub fn fresh() -> Record
+        ensures { λ r. ⌜ r ≡ fresh ⌝ }
+    {
+        Record {
+            energies: [0.0f32; 42],
+            next: 0,
+        }
+    }
+
+    // Frame `number`, whose coarse energies the reader d stands before in the packet s. Only the next number is applied: one coarse decode, and
+    // the number goes up by one. Refused as 2 (bytes), 1 (the state, the numbers, the record's next number), 3 (an energy of the record that is
+    // not finite), 10 (a number below the next), 11 (one above it) and 4.
+    pub fn frame(
+        self,
+        d: Reader,
+        s: &[u8],
+        number: u64,
+        c: i32,
+        lm: i32,
+        start: i32,
+        end: i32,
+        intra: i32,
+    ) -> Framed
+        ensures { λ r. ⌜ r ≡ framed self (call d (now (s .entry)) number c lm start end intra) ⌝ }
+    {
+        let no = gate::refusal(self, d, s.len(), number, c, lm, start, end, intra);
+        if no == 0 {
+            work::apply(self, d, s, c, lm, start, end, intra)
+        } else {
+            Framed {
+                code: no,
+                rec: self,
+                next: d,
+            }
+        }
+    }
+}
