@@ -1,0 +1,5 @@
+pub mod Rows
+pub mod Asked
+pub mod Rule
+pub mod Replies
+pub mod Figures

@@ -1,0 +1,25 @@
+-- `listing::lines::last_four` meets its contract. Assumes nothing.
+use mathlib.Core.List.{[], _∷_}
+use mir.Facts.{toZ-ofZ}
+use borrow.Author.Needs.{needs}
+use Rattle.listing.proofs.Rows.{put-field}
+use Rattle.text.specs.Written.{signedOf}
+use Rattle.listing.proofs.lines.last_four.Statement.{statement}
+use Rattle.listing.proofs.lines.last_four.Tie as tie
+
+signed-field-requires : tie.Need-signed-field-requires
+signed-field-requires c κs = search needs
+
+last-three-requires : tie.Need-last-three-requires
+last-three-requires c κs = search needs
+
+same-length : tie.Need-same-length
+same-length c = search needs
+
+returns : tie.Need-returns
+returns c =
+    put-field 12 37 (signedOf (c .before .before .before .before .before .before .before .before .before .args .w)) (signedOf (c .before .before .before .before .before .before .before .before .before .args .x) ∷ signedOf (c .before .before .before .before .before .before .before .before .before .args .y) ∷ signedOf (c .before .before .before .before .before .before .before .before .before .args .z) ∷ []) (rw (toZ-ofZ (c .before .before .before .before .before .before .before .before .before .fits .w)) at (c .before .before .before .before .before .before .signed-field .ensures))
+    (rw (toZ-ofZ (c .before .before .before .before .before .before .before .before .before .fits .x), toZ-ofZ (c .before .before .before .before .before .before .before .before .before .fits .y), toZ-ofZ (c .before .before .before .before .before .before .before .before .before .fits .z)) at (c .before .before .last-three .ensures))
+
+pub last-four-spec : {M : Type 1} → statement M
+last-four-spec = tie.close (tie.spec signed-field-requires last-three-requires same-length returns)
