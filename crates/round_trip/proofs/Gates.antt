@@ -1,109 +1,126 @@
--- What a writer's gate that lets a call in tells, and that a reader which stands at the same place is let in too.
-use Prim.Native.Nat.{ℕ}
-use mathlib.Core.Path.{_≡_, ap₂, sym, _∙_}
-use mathlib.Core.Bool.{Bool, true, _&&_, and-eq-true-iff}
+-- What an accepted call tells: a new writer, an allocation, a close. Assumes nothing.
+use Prim.Native.Nat.{ℕ, zero, suc, _≤_}
+use mathlib.Core.Path.{_≡_, refl, ap}
+use mathlib.Core.Bool.{Bool, true, false, cond, and-eq-true-iff}
 use mathlib.Core.List.{List}
 use native.Mathlib.Omega.{arith}
+use lib.Dec.{eqb, leb}
+use lib.IntN.{ℤ}
 use lib.ListN.{length}
-use lib.Dec.{leb, eqb}
-use borrow.Author.Tests.{lt-ltb, le-leb, eq-eqb}
-use Rattle.laws.specs.Lists.{Bytes}
-use Rattle.entcode.specs.Tell.{tellOf}
-use Rattle.entcode.specs.Counts.{countsOk, tellOk}
-use Rattle.entcode.specs.Refusal.{refusal}
-use Rattle.entcode.specs.Sym.{Shape, shapeOk, listOk, lengthOk, valueOk}
+use borrow.Author.Tests.{leb-true, le-leb}
+use Rattle.entcode.specs.Counts.{tellOk}
 use Rattle.entcode.proofs.Refusals.{passed}
-use Rattle.entcode.proofs.Rule.{Counts, counts, counts-ok}
-use Rattle.entdec.specs.declared.Reader.{Reader}
-use Rattle.entdec.specs.Rule.{readerOk, readRefusal, refusalR}
+use Rattle.entdec.specs.declared.Started.the-variants.{At}
+use Rattle.entdec.specs.Answer.{startOf as readerOver}
+use Rattle.entdec.specs.Read.{freshReader}
 use Rattle.entenc.specs.declared.Writer.{Writer}
-use Rattle.entenc.specs.Write.{Wr}
-use Rattle.entenc.specs.Rule.{writerOk, isLive, writeRefusal, refusalW}
-use Rattle.round_trip.specs.Row.{tellW, tellR}
-use Rattle.round_trip.proofs.Ideal.{Ideal, Ready}
-use Rattle.round_trip.proofs.Nested.{Inside}
-use Rattle.round_trip.proofs.WriterFollows.{WriterNumbers}
-use Rattle.round_trip.proofs.ReaderFollows.{ReaderAt}
+use Rattle.entenc.specs.declared.Answer.the-variants.{Next, Refused}
+use Rattle.entenc.specs.Answer.{startOf as writerOver, After, after, answer, closing}
+use Rattle.entenc.specs.Close.{closeW}
+use Rattle.entenc.specs.Rule.{writerOk, writeRefusal, refusalClose}
+use Rattle.entenc.specs.Write.{Wr, freshWriter}
+use Rattle.entenc.proofs.Taken.{close-taken}
+use Rattle.rate_def.specs.Asked.{In, Out}
+use Rattle.rate_def.specs.Domain.{InOk}
+use Rattle.rate_bands.proofs.Frames.{in-ok}
+use Rattle.rate.specs.declared.Numbers.{Numbers}
+use Rattle.rate.specs.declared.WrittenAllocation.{WrittenAllocation}
+use Rattle.rate.specs.declared.AllocWrote.the-variants as allocWritten
+use Rattle.rate.specs.Question.{Lists, Wishes, allocInput, entriesOk, numbersOk, refusalWrite, sized}
+use Rattle.rate.specs.Answer.{Written, afterWritten, answerWritten, listsOf, writeWished, writing, writtenShown}
+use Rattle.rate.proofs.Accepts.{entries, framed}
 
--- writer and reader that stand at the same place tell the same
-pub same-tell : (w : Wr) (s : List ℕ) (d : Reader) (g : Ideal) (x : ℕ) → WriterNumbers (w .st) g → ReaderAt s d g x → tellR d ≡ tellW w
-same-tell w s d g x t r = ap₂ (λ (i j : ℕ). tellOf i j) (r .total ∙ sym (t .total)) (r .size ∙ sym (t .size))
+-- ---- a new writer, a new reader
 
--- ---- the writer's gate
+pub new-writer : (n : ℕ) (w : Writer) → writerOver n ≡ Next w → (n ≤ 1275) × (w ≡ freshWriter n)
+new-writer n w e = go (leb n 1275) refl e
+  where
+    go : (b : Bool) → leb n 1275 ≡ b → cond b (Next (freshWriter n)) (Refused 1) ≡ Next w → (n ≤ 1275) × (w ≡ freshWriter n)
+    go true t e = (leb-true n 1275 t, cc)
+    go false t e = let z : _≡_ {A = ℕ} 0 1 = cc in absurd (omega arith)
 
--- of the state
-pub record Entered (w : Writer) : Type 0 where
-  pub counted : Counts (w .sink .storage) (w .rng) (w .waiting) (w .total)
-  pub told : tellOk (w .sink .storage) (w .total) (w .rng) ≡ true
+pub new-reader : (s : List ℕ) → length s ≤ 1275 → readerOver s ≡ At (freshReader s)
+new-reader s h = rw (le-leb (length s) 1275 h)
 
-pub entered : (n : ℕ) (w : Writer) (a b c : Bool) (own : ℕ) → writeRefusal n w a b c own ≡ 0 → Entered w
-unfolding writeRefusal writerOk
-entered n w a b c own e =
-    let p = passed (eqb (w .sink .storage) n && a) (writerOk w && b) c own (isLive w) (tellOk (w .sink .storage) (w .total) (w .rng)) e in
-    let q = and-eq-true-iff (writerOk w) b .0 (p .one) in
-    let f = and-eq-true-iff _ (leb (w .ext) 65535) .0 (q .0) in
-    let g = and-eq-true-iff _ (leb (w .rem) 256) .0 (f .0) in
-    let h = and-eq-true-iff _ _ .0 (g .0) in
-    let k = and-eq-true-iff (countsOk (w .sink .storage) (w .rng) (w .waiting) (w .total)) _ .0 (h .0) in
-    record { counted = counts (w .sink .storage) (w .rng) (w .waiting) (w .total) (k .0); told = p .four }
+-- ---- a close
 
--- of the symbol
-pub record Accepted (h : Shape) (v : ℕ) (w : Writer) : Type 0 where
-  pub state : Entered w
-  pub lengths : lengthOk h ≡ true
-  pub shape : shapeOk h ≡ true
-  pub value : valueOk h v ≡ true
-  pub lists : listOk h ≡ true
+pub record Closed (w : Wr) (last : Writer) (packet : List ℕ) : Type 0 where
+  pub rule : writerOk (w .st) ≡ true
+  pub state : last ≡ closeW w .st
+  pub bytes : packet ≡ closeW w .bytes
 
-pub accepted : (h : Shape) (v : ℕ) (w : Wr) → refusalW h v w ≡ 0 → Accepted h v (w .st)
-unfolding refusalW writeRefusal
-accepted h v w e =
-    let p = passed (eqb (w .st .sink .storage) (length (w .bytes)) && lengthOk h) (writerOk (w .st) && (shapeOk h && valueOk h v)) (listOk h) 0
-    (isLive (w .st)) (tellOk (w .st .sink .storage) (w .st .total) (w .st .rng)) e in
-    let a = and-eq-true-iff (eqb (w .st .sink .storage) (length (w .bytes))) (lengthOk h) .0 (p .two) in
-    let b = and-eq-true-iff (writerOk (w .st)) (shapeOk h && valueOk h v) .0 (p .one) in
-    let c = and-eq-true-iff (shapeOk h) (valueOk h v) .0 (b .1) in
+-- by the number n of the gate
+record Shut (n : ℕ) (v : Wr) (last : Writer) (packet : List ℕ) : Type 0 where
+  none : n ≡ 0
+  state : last ≡ v .st
+  bytes : packet ≡ v .bytes
+
+shut : (n : ℕ) (w v : Wr) (last : Writer) (packet : List ℕ) → answer n w v ≡ after (Next last) packet → Shut n v last packet
+unfolding answer
+shut zero w v last packet e =
+    let p : Next (v .st) ≡ Next last = ap (λ (x : After). x .said) e in
+    let q : v .bytes ≡ packet = ap (λ (x : After). x .bytes) e in
+    record { none = refl; state = cc; bytes = cc }
+shut (suc n) w v last packet e =
+    let p : Refused (suc n) ≡ Next last = ap (λ (x : After). x .said) e in
+    let z : _≡_ {A = ℕ} 0 1 = cc in
+    absurd (omega arith)
+
+pub closed : (w : Wr) (last : Writer) (packet : List ℕ) → closing w ≡ after (Next last) packet → Closed w last packet
+closed w last packet e =
+    let s = shut (refusalClose w) w (closeW w) last packet e in
+    record { rule = close-taken w (s .none) .0; state = s .state; bytes = s .bytes }
+
+-- ---- an allocation
+
+-- by the number n of the gate
+record Gave (n : ℕ) (a : In) (o : Out × Wr) (l : Lists) (y : WrittenAllocation) (m : Lists) (b : List ℕ) : Type 0 where
+  none : n ≡ 0
+  shows : y ≡ writtenShown o
+  lists : m ≡ listsOf a (o .0) l
+  bytes : b ≡ o .1 .bytes
+
+gave : (n : ℕ) (a : In) (o : Out × Wr) (l : Lists) (w : Wr) (y : WrittenAllocation) (m : Lists) (b : List ℕ)
+    → answerWritten n a o l w ≡ afterWritten (allocWritten.Got y) m b → Gave n a o l y m b
+unfolding answerWritten
+gave zero a o l w y m b e =
+    let p : allocWritten.Got (writtenShown o) ≡ allocWritten.Got y = ap (λ (x : Written). x .said) e in
+    let q : listsOf a (o .0) l ≡ m = ap (λ (x : Written). x .lent) e in
+    let r : o .1 .bytes ≡ b = ap (λ (x : Written). x .bytes) e in
+    record { none = refl; shows = cc; lists = cc; bytes = cc }
+gave (suc n) a o l w y m b e =
+    let p : allocWritten.Refused (suc n) ≡ allocWritten.Got y = ap (λ (x : Written). x .said) e in
+    let z : _≡_ {A = ℕ} 0 1 = cc in
+    absurd (omega arith)
+
+pub record Allotted (q : Numbers) (h : Wishes) (offsets caps : List ℤ) (w : Wr) (l : Lists) (y : WrittenAllocation) (m : Lists) (b : List ℕ) : Type 0 where
+  pub rule : writerOk (w .st) ≡ true
+  pub told : tellOk (w .st .sink .storage) (w .st .total) (w .st .rng) ≡ true
+  pub sizes : sized q offsets caps l ≡ true
+  pub known : numbersOk q ≡ true
+  pub ranges : entriesOk offsets caps ≡ true
+  pub asked : InOk (allocInput q offsets caps)
+  pub shows : y ≡ writtenShown (writeWished (allocInput q offsets caps) h w)
+  pub lists : m ≡ listsOf (allocInput q offsets caps) (writeWished (allocInput q offsets caps) h w .0) l
+  pub bytes : b ≡ writeWished (allocInput q offsets caps) h w .1 .bytes
+
+pub allotted : (q : Numbers) (h : Wishes) (offsets caps : List ℤ) (w : Wr) (l : Lists) (y : WrittenAllocation) (m : Lists) (b : List ℕ)
+    → writing q h offsets caps w l ≡ afterWritten (allocWritten.Got y) m b → Allotted q h offsets caps w l y m b
+unfolding refusalWrite writeRefusal
+allotted q h offsets caps w l y m b e =
+    let g = gave (refusalWrite q offsets caps l h w) (allocInput q offsets caps) (writeWished (allocInput q offsets caps) h w) l w y m b e in
+    let p = passed _ _ _ _ _ _ (g .none) in
+    let s = and-eq-true-iff (eqb (w .st .sink .storage) (length (w .bytes))) (sized q offsets caps l) .0 (p .two) in
+    let n = and-eq-true-iff _ _ .0 (p .one) in
+    let k = and-eq-true-iff _ _ .0 (n .1) in
     record {
-      state = entered (length (w .bytes)) (w .st) (lengthOk h) (shapeOk h && valueOk h v) (listOk h) 0 e;
-      lengths = a .1;
-      shape = c .0;
-      value = c .1;
-      lists = p .three;
+      rule = n .0;
+      told = p .four;
+      sizes = s .1;
+      known = k .0;
+      ranges = p .three;
+      asked = in-ok _ _ (framed q (k .0)) (entries offsets caps (p .three));
+      shows = g .shows;
+      lists = g .lists;
+      bytes = g .bytes;
     }
-
--- ---- the reader's gate
-
--- the call's own tests being passed
-pub enters : (w : Writer) (s : List ℕ) (d : Reader) (g : Ideal) (x : ℕ) → Entered w → WriterNumbers w g → Bytes s → ReaderAt s d g x → Inside s g → Ready g
-    → length s ≡ w .sink .storage → readRefusal (length s) d true true true 0 ≡ 0
-unfolding readRefusal refusal readerOk
-enters w s d g x a t b r h y n =
-    let k = b (g .at) in
-    let m = a .counted in
-    let p : d .storage ≡ w .sink .storage = r .len ∙ n in
-    let q : d .total ≡ w .total = r .total ∙ sym (t .total) in
-    let z : d .rng ≡ w .rng = r .size ∙ sym (t .size) in
-    let e : tellOk (d .storage) (d .total) (d .rng) ≡ true = rw (p, q, z) (a .told) in
-    let c = counts-ok (d .storage) (d .rng) (d .waiting) (d .total)
-    (record {
-      room = omega (arith, m .room);
-      low = omega (arith, m .low);
-      top = omega (arith, m .top);
-      waits = r .wait;
-      least = omega (arith, m .least);
-      most = omega (arith, m .most);
-    }) in
-    simp (
-      eq-eqb (d .storage) (length s) (r .len),
-      c,
-      lt-ltb (d .val) (d .rng) (omega (arith, r .size, r .val, h .from)),
-      le-leb (d .offs) (d .storage) (omega (arith, r .offs, r .len)),
-      le-leb (d .ends) (d .storage) (omega (arith, r .ends, r .len)),
-      le-leb (d .rem) 255 (omega (arith, r .rem)),
-      e,
-    )
-
--- one symbol's tests are passed where the writer's were
-pub enters-read : (h : Shape) (v : ℕ) (w : Writer) (s : List ℕ) (d : Reader) → Accepted h v w → readRefusal (length s) d true true true 0 ≡ 0 → refusalR h s d ≡ 0
-unfolding refusalR
-enters-read h v w s d a e = rw (a .lengths, a .shape, a .lists) e

@@ -1,1 +1,1 @@
-// The round trip of the range coder: what is written and closed without error is read back. The laws are in proofs/.
+// What an encoder wrote a decoder reads, and both come to the same bit allocation.

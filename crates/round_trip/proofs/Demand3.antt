@@ -1,0 +1,187 @@
+-- Document 01's third demand: what an encoder wrote and closed without error a decoder reads, and both come to the definition's allocation.
+-- Assumes nothing.
+use Prim.Native.Nat.{ℕ, _+_, _-_, _≤_}
+use mathlib.Core.Path.{_≡_, refl, ap, subst, sym, _∙_}
+use mathlib.Core.Bool.{true, false}
+use mathlib.Core.List.{List, [], _++_}
+use native.Mathlib.Omega.{arith}
+use lib.IntN.{ℤ, pos}
+use lib.ListN.{length}
+use lib.Signed.{ltZ}
+use Rattle.laws.specs.Lists.{Bytes}
+use Rattle.laws.specs.Signs.{clip}
+use Rattle.laws.proofs.Lists.{fill-in}
+use Rattle.entcode.specs.Sym.{Sym}
+use Rattle.entdec.specs.declared.Reader.{Reader}
+use Rattle.entdec.specs.Read.{freshReader}
+use Rattle.entenc.specs.declared.Writer.{Writer}
+use Rattle.entenc.specs.Write.{Wr, wr, freshWriter}
+use Rattle.entenc.specs.Close.{closeW}
+use Rattle.entenc.specs.Rule.{writerOk}
+use Rattle.rate_def.specs.Asked.{Band, In, Out}
+use Rattle.rate_def.proofs.Follow.{replay}
+use Rattle.rate_skip.specs.Asks.{writeAsk}
+use Rattle.rate.specs.declared.Numbers.{Numbers}
+use Rattle.rate.specs.Question.{Lists, Wishes, allocInput, entriesOk, numbersOk, refusalRead, sized}
+use Rattle.rate.specs.Answer.{answerRead, afterRead, listed, listsOf, readAlloc, readShown, writeWished, writtenShown}
+use Rattle.rate.specs.declared.AllocRead.the-variants as allocRead
+use Rattle.rate.specs.declared.WrittenAllocation.{WrittenAllocation}
+use Rattle.rate.proofs.Accepts.{sized as sizes-of}
+use Rattle.trip.specs.Along.{writeSyms, Along, Meets}
+use Rattle.trip.proofs.Trip.{Back, along}
+use Rattle.trip.proofs.Rows.{AllFine}
+use Rattle.round_trip.specs.Calls.{Symbol, Tells, tellsR, tellsW}
+use Rattle.round_trip.specs.Rows.{writeAll, readAll, kinds}
+use Rattle.round_trip.specs.Rows.Wrote.{wrote}
+use Rattle.round_trip.specs.Rows.Got.{got}
+use Rattle.round_trip.specs.Demand.{Agreed, RowAgreed, RowSent, SameIn, SameSizes, Sent}
+use Rattle.round_trip.proofs.Symbols.{same-tells, opens}
+use Rattle.round_trip.proofs.RowsBack.{syms, write-append, fine-append, meets-first, all-done, rule-before, row-back}
+use Rattle.round_trip.proofs.Allocation.{allocSyms, reads-on, write-traced, write-syms, write-fine, read-follows}
+use Rattle.round_trip.proofs.Gates.{new-writer, new-reader, closed, Allotted, allotted}
+
+-- ---- the row, and symbols after it that no gate looks at
+
+-- w is the new writer, v the writer after the row, s the bytes that are left when all is closed, d their reader after the row
+record Whole (ys : List Symbol) (more : List Sym) (n : ℕ) (w v : Wr) (zs : List Symbol) (ts : List Tells) (s : List ℕ) (d : Reader) : Type 0 where
+  size : length s ≡ n
+  begins : tellsR (freshReader s) ≡ tellsW (w .st)
+  reads : readAll (kinds ys) s (freshReader s) ≡ got d zs ts
+  goes : Along more s v d
+
+abbrev WholeOf : List Symbol → List Sym → ℕ → Wr → Wr → List Symbol → List Tells → List ℕ → Type 0
+WholeOf ys more n w v zs ts s = (d : Reader) × Whole ys more n w v zs ts s d
+
+-- u is the writer after the symbols `more`
+whole-at : (bytes : List ℕ) (ys : List Symbol) (more : List Sym) (v u : Wr) (zs : List Symbol) (ts : List Tells) → Bytes bytes
+    → writeAll ys (wr (freshWriter (length bytes)) bytes) ≡ wrote v zs ts → writerOk (v .st) ≡ true → AllFine more
+    → writeSyms (syms ys ++ more) (wr (freshWriter (length bytes)) bytes) ≡ u → closeW u .st .sink .error ≡ false
+    → WholeOf ys more (length bytes) (wr (freshWriter (length bytes)) bytes) v zs ts (closeW u .bytes)
+whole-at bytes ys more v u zs ts b e r f p ok =
+    let w = wr (freshWriter (length bytes)) bytes in
+    let k : Back (syms ys ++ more) (length bytes) (wr (freshWriter (length bytes)) bytes) (closeW u .bytes)
+    = rw p at (along bytes (syms ys ++ more) b (fine-append (syms ys) more (all-done ys w v zs ts e .fines) f) (rw p ok)) in
+    let s = closeW u .bytes in
+    let x = row-back ys more s (freshReader s) w v zs ts e r (k .goes) in (
+      x .last,
+      record {
+        size = k .size;
+        begins = same-tells s (w .st) (freshReader s) (meets-first (syms ys ++ more) s w (freshReader s) (k .goes)) (rule-before ys w v zs ts e r);
+        reads = x .reads;
+        goes = x .goes;
+      },
+    )
+
+-- by the names of the calls
+whole : (bytes : List ℕ) (ys : List Symbol) (more : List Sym) (first : Writer) (v u : Wr) (zs : List Symbol) (ts : List Tells) (s : List ℕ) → Bytes bytes
+    → first ≡ freshWriter (length bytes) → writeAll ys (wr first bytes) ≡ wrote v zs ts → writerOk (v .st) ≡ true → AllFine more
+    → writeSyms more v ≡ u → s ≡ closeW u .bytes → closeW u .st .sink .error ≡ false
+    → WholeOf ys more (length bytes) (wr first bytes) v zs ts s
+whole bytes ys more first v u zs ts s b n e r f p c ok =
+    let w = wr (freshWriter (length bytes)) bytes in
+    let g : writeAll ys (wr (freshWriter (length bytes)) bytes) ≡ wrote v zs ts = subst (λ (x : Writer). writeAll ys (wr x bytes) ≡ wrote v zs ts) n e in
+    let d = all-done ys w v zs ts g in
+    rw (n, c) (whole-at bytes ys more v u zs ts b g r f (write-append (syms ys) more w ∙ ap (writeSyms more) (d .same) ∙ p) ok)
+
+-- ---- lists
+
+-- one figure of the same bands, in lists of 21
+same-in : (a : In) (o : Out) (figure : Band → ℕ) (x y : List ℤ) → length x ≡ 21 → length y ≡ 21 → a .end ≤ 21 → SameIn a (listed a figure o x) (listed a figure o y)
+same-in a o figure x y p q h j l u =
+    let f : ℕ → ℤ = λ j. pos (figure (o .band j)) in
+    fill-in f (a .end - a .start) (a .start) j x (pos 0) l (omega arith) (omega arith)
+    ∙ sym (fill-in f (a .end - a .start) (a .start) j y (pos 0) l (omega arith) (omega arith))
+
+got-read : (n : ℕ) (a : In) (x : Out × Reader) (l : Lists) → n ≡ 0 → answerRead n a x l ≡ afterRead (allocRead.Got (readShown x)) (listsOf a (x .0) l)
+unfolding answerRead
+got-read n a x l z = rw z
+
+-- the writer after an allocation
+same-writer : (y : WrittenAllocation) (o : Out × Wr) (b : List ℕ) → y ≡ writtenShown o → b ≡ o .1 .bytes → wr (y .next) b ≡ o .1
+same-writer y o b p q = rw (p, q)
+
+-- ---- the demand
+
+module _ (bytes : List ℕ) (ys : List Symbol) (q : Numbers) (offsets caps : List ℤ) (h : Wishes) (l : Lists) (k : Sent bytes ys q offsets caps h l) (m : Lists) where
+  abbrev a : In
+  a = allocInput q offsets caps
+
+  -- the encoder's run
+  abbrev run : Out × Wr
+  run = writeWished a h (k .row)
+
+  abbrev after-it : Wr
+  after-it = wr (k .shares .next) (k .filled)
+
+  -- what holds once the reader has read the row, which leaves it at d, and come to the encoder's result, which leaves it at e
+  agreed : SameSizes l m → length bytes ≤ 1275 → Allotted q h offsets caps (k .row) l (k .shares) (k .lists) (k .filled) → after-it ≡ run .1 → writerOk (k .shares .next) ≡ true
+      → (d e : Reader) → Whole ys (allocSyms a (run .0)) (length bytes) (wr (k .first) bytes) (k .row) (k .zs) (k .ts) (k .packet) d → Meets (k .packet) (k .row .st) d
+      → readAlloc a (k .packet) d ≡ (run .0, e) → Meets (k .packet) (k .shares .next) e → Agreed bytes ys q offsets caps h l k m
+  unfolding refusalRead
+  agreed z n g v c d e x w s t =
+      let o = run .0 in
+      let u = g .shows in
+      let p = sizes-of (length offsets) (length caps) (length (l .pulses)) (length (l .fine)) (length (l .priorities)) (g .sizes) in
+      let j : sized q offsets caps m ≡ true = rw (z .pulses, z .fine, z .priorities) (g .sizes) in
+      let f = opens (k .packet) (k .row .st) d (sized q offsets caps m) (numbersOk q) (entriesOk offsets caps) w (g .rule) (g .told) j (g .known) (g .ranges) in
+      record {
+        first = freshReader (k .packet);
+        new = new-reader (k .packet) (omega (arith, x .size));
+        begins = x .begins;
+        row = d;
+        reads = x .reads;
+        shares = readShown (o, e);
+        lists = listsOf a o m;
+        allots =
+            got-read (refusalRead q offsets caps m (k .packet) d) a (readAlloc a (k .packet) d) m f
+            ∙ ap (λ (y : Out × Reader). afterRead (allocRead.Got (readShown y)) (listsOf a (y .0) m)) s;
+        coded = ap (λ (y : WrittenAllocation). y .coded) (sym u);
+        balance = ap (λ (y : WrittenAllocation). y .balance) (sym u);
+        intensity = ap (λ (y : WrittenAllocation). y .intensity) (sym u);
+        dual = ap (λ (y : WrittenAllocation). y .dual) (sym u);
+        pulses = rw (g .lists) (same-in a o (λ b. b .pulses) (m .pulses) (l .pulses) (z .pulses ∙ p .pulses-is) (p .pulses-is) (g .asked .end-le));
+        fine = rw (g .lists) (same-in a o (λ b. b .fine) (m .fine) (l .fine) (z .fine ∙ p .fine-is) (p .fine-is) (g .asked .end-le));
+        priorities = rw (g .lists) (same-in a o (λ b. b .prio) (m .priorities) (l .priorities) (z .priorities ∙ p .priorities-is) (p .priorities-is) (g .asked .end-le));
+        tells = same-tells (k .packet) (k .shares .next) e t c;
+        error = t .error;
+        out = o;
+        given = sym (replay a (writeAsk a (h .previous) (h .bandwidth) (clip (h .intensity)) (ltZ (pos 0) (h .dual))) (k .row));
+        symbols = v ∙ write-traced a (g .asked) (h .previous) (h .bandwidth) (clip (h .intensity)) (ltZ (pos 0) (h .dual)) (k .row);
+        shown-written = u ∙ ap (λ (y : Wr). writtenShown (o, y)) (sym v);
+        lists-written = g .lists;
+        shown-read = refl;
+        lists-read = refl;
+      }
+
+  pub demand3 : Bytes bytes → SameSizes l m → Agreed bytes ys q offsets caps h l k m
+  demand3 b z =
+      let n = new-writer (length bytes) (k .first) (k .new) in
+      let g = allotted q h offsets caps (k .row) l (k .shares) (k .lists) (k .filled) (k .allots) in
+      let c = closed after-it (k .last) (k .packet) (k .closes) in
+      let i = clip (h .intensity) in
+      let e = ltZ (pos 0) (h .dual) in
+      let v = same-writer (k .shares) run (k .filled) (g .shows) (g .bytes) in
+      let y = write-syms a (g .asked) (h .previous) (h .bandwidth) i e (k .row) in
+      let x = whole bytes ys (allocSyms a (run .0)) (k .first) (k .row) after-it (k .zs) (k .ts) (k .packet) b (n .1) (k .writes) (g .rule)
+      (write-fine a (g .asked) (h .previous) (h .bandwidth) i e (k .row)) (sym y ∙ sym v) (c .bytes) (ap (λ (u : Writer). u .sink .error) (sym (c .state)) ∙ k .fits) in
+      let r = reads-on (k .packet) a (run .0) (k .row) (x .0) (x .1 .goes) in
+      agreed z (n .0) g v (c .rule) (x .0) (r .last) (x .1) (meets-first (allocSyms a (run .0)) (k .packet) (k .row) (x .0) (x .1 .goes))
+      (read-follows a (g .asked) (h .previous) (h .bandwidth) i e (k .row) (k .packet) (x .0) (r .last) (r .agrees))
+      (subst (λ (u : Wr). Meets (k .packet) (u .st) (r .last)) (sym y ∙ sym v) (r .meets))
+
+-- symbols alone
+pub row3 : (bytes : List ℕ) (ys : List Symbol) (k : RowSent bytes ys) → Bytes bytes → RowAgreed bytes ys k
+unfolding writeSyms
+row3 bytes ys k b =
+    let n = new-writer (length bytes) (k .first) (k .new) in
+    let c = closed (k .row) (k .last) (k .packet) (k .closes) in
+    let x = whole bytes ys [] (k .first) (k .row) (k .row) (k .zs) (k .ts) (k .packet) b (n .1) (k .writes) (c .rule) tt refl (c .bytes)
+    (ap (λ (u : Writer). u .sink .error) (sym (c .state)) ∙ k .unmarked) in
+    record {
+      first = freshReader (k .packet);
+      new = new-reader (k .packet) (omega (arith, x .1 .size, n .0));
+      begins = x .1 .begins;
+      row = x .0;
+      reads = x .1 .reads;
+      error = x .1 .goes .error;
+    }

@@ -1,0 +1,121 @@
+-- Document 01's third demand: what is written and closed without error is read back, and reader and writer come to the same allocation. Every
+-- call stands here as its contract states it.
+use Prim.Native.Nat.{ℕ, _≤_, _<_}
+use mathlib.Core.Path.{_≡_}
+use mathlib.Core.Bool.{false}
+use mathlib.Core.List.{List}
+use lib.IntN.{ℤ, pos}
+use lib.ListN.{getD, length}
+use Rattle.entdec.specs.declared.Reader.{Reader}
+use Rattle.entdec.specs.declared.Started.the-variants.{At}
+use Rattle.entdec.specs.Answer.{startOf as readerOver}
+use Rattle.entenc.specs.declared.Writer.{Writer}
+use Rattle.entenc.specs.declared.Answer.the-variants.{Next}
+use Rattle.entenc.specs.Answer.{startOf as writerOver, after, closing}
+use Rattle.entenc.specs.Write.{Wr, wr}
+use Rattle.rate_def.specs.Asked.{In, Out}
+use Rattle.rate_def.specs.Answers.{allocGiven}
+use Rattle.rate_def.specs.Written.{written}
+use Rattle.rate_skip.specs.Asks.{writeBit, writeBelow}
+use Rattle.rate.specs.declared.Numbers.{Numbers}
+use Rattle.rate.specs.declared.ReadAllocation.{ReadAllocation}
+use Rattle.rate.specs.declared.WrittenAllocation.{WrittenAllocation}
+use Rattle.rate.specs.declared.AllocRead.the-variants as allocRead
+use Rattle.rate.specs.declared.AllocWrote.the-variants as allocWritten
+use Rattle.rate.specs.Question.{Lists, Wishes, allocInput}
+use Rattle.rate.specs.Answer.{afterRead, afterWritten, listsOf, readShown, reading, writing, writtenShown}
+use Rattle.round_trip.specs.Calls.{Symbol, Tells, tellsR, tellsW}
+use Rattle.round_trip.specs.Rows.{writeAll, readAll, kinds}
+use Rattle.round_trip.specs.Rows.Wrote.{wrote}
+use Rattle.round_trip.specs.Rows.Got.{got}
+
+-- the same entry in each of the places start..end-1
+abbrev pub SameIn : In → List ℤ → List ℤ → Type 0
+SameIn a x y = (j : ℕ) → a .start ≤ j → j < a .end → getD x j (pos 0) ≡ getD y j (pos 0)
+
+-- the reader's lists are as long as the writer's
+pub record SameSizes (l m : Lists) : Type 0 where
+  pub pulses : length (m .pulses) ≡ length (l .pulses)
+  pub fine : length (m .fine) ≡ length (l .fine)
+  pub priorities : length (m .priorities) ≡ length (l .priorities)
+
+-- What was done: lent bytes, symbols, an allocation's numbers, offsets and caps, an encoder's wishes, and the lists lent for the answer
+module _ (bytes : List ℕ) (ys : List Symbol) (q : Numbers) (offsets caps : List ℤ) (h : Wishes) (l : Lists) where
+  pub record Sent : Type 0 where
+    -- a new writer over the bytes
+    pub first : Writer
+    pub new : writerOver (length bytes) ≡ Next first
+    -- the symbols were accepted: zs as they count as written, ts what was told after each
+    pub row : Wr
+    pub zs : List Symbol
+    pub ts : List Tells
+    pub writes : writeAll ys (wr first bytes) ≡ wrote row zs ts
+    -- the allocation was accepted
+    pub shares : WrittenAllocation
+    pub lists : Lists
+    pub filled : List ℕ
+    pub allots : writing q h offsets caps row l ≡ afterWritten (allocWritten.Got shares) lists filled
+    -- close was accepted and reported no error
+    pub last : Writer
+    pub packet : List ℕ
+    pub closes : closing (wr (shares .next) filled) ≡ after (Next last) packet
+    pub fits : last .sink .error ≡ false
+
+  -- What then holds of a reader that is lent the lists m
+  module _ (k : Sent) (m : Lists) where
+    pub record Agreed : Type 0 where
+      -- a new reader of those bytes, which tells what the new writer told
+      pub first : Reader
+      pub new : readerOver (k .packet) ≡ At first
+      pub begins : tellsR first ≡ tellsW (k .first)
+      -- it accepts and reads the same symbols, and tells the same after each
+      pub row : Reader
+      pub reads : readAll (kinds ys) (k .packet) first ≡ got row (k .zs) (k .ts)
+      -- it accepts the allocation with the same shared inputs
+      pub shares : ReadAllocation
+      pub lists : Lists
+      pub allots : reading q offsets caps (k .packet) row m ≡ afterRead (allocRead.Got shares) lists
+      -- and gets the same
+      pub coded : shares .coded ≡ k .shares .coded
+      pub balance : shares .balance ≡ k .shares .balance
+      pub intensity : shares .intensity ≡ k .shares .intensity
+      pub dual : shares .dual ≡ k .shares .dual
+      pub pulses : SameIn (allocInput q offsets caps) (lists .pulses) (k .lists .pulses)
+      pub fine : SameIn (allocInput q offsets caps) (lists .fine) (k .lists .fine)
+      pub priorities : SameIn (allocInput q offsets caps) (lists .priorities) (k .lists .priorities)
+      -- it still tells the same, and no read was out of range
+      pub tells : tellsR (shares .next) ≡ tellsW (k .shares .next)
+      pub error : shares .next .error ≡ false
+      -- Both show the definition's allocation for the flags, the intensity and the dual stereo that were written: these are the symbols between
+      -- the writer before the allocation and the writer after it
+      pub out : Out
+      pub given : out ≡ allocGiven (allocInput q offsets caps) (out .flags) (out .intensity) (out .dual)
+      pub symbols : wr (k .shares .next) (k .filled) ≡ written writeBit writeBelow (allocInput q offsets caps) out (k .row)
+      pub shown-written : k .shares ≡ writtenShown (out, wr (k .shares .next) (k .filled))
+      pub lists-written : k .lists ≡ listsOf (allocInput q offsets caps) out l
+      pub shown-read : shares ≡ readShown (out, shares .next)
+      pub lists-read : lists ≡ listsOf (allocInput q offsets caps) out m
+
+-- ---- the same of symbols alone, with no allocation before the close
+
+module _ (bytes : List ℕ) (ys : List Symbol) where
+  pub record RowSent : Type 0 where
+    pub first : Writer
+    pub new : writerOver (length bytes) ≡ Next first
+    pub row : Wr
+    pub zs : List Symbol
+    pub ts : List Tells
+    pub writes : writeAll ys (wr first bytes) ≡ wrote row zs ts
+    pub last : Writer
+    pub packet : List ℕ
+    pub closes : closing row ≡ after (Next last) packet
+    pub unmarked : last .sink .error ≡ false
+
+  module _ (k : RowSent) where
+    pub record RowAgreed : Type 0 where
+      pub first : Reader
+      pub new : readerOver (k .packet) ≡ At first
+      pub begins : tellsR first ≡ tellsW (k .first)
+      pub row : Reader
+      pub reads : readAll (kinds ys) (k .packet) first ≡ got row (k .zs) (k .ts)
+      pub error : row .error ≡ false

@@ -1,0 +1,199 @@
+-- A lent symbol by its kind: what each public call answers is what the definition of one step says. Assumes nothing.
+use Prim.Native.Nat.{ℕ}
+use mathlib.Core.Path.{_≡_, refl, ap, _∙_}
+use mathlib.Core.List.{List}
+use lib.IntN.{ℤ}
+use lib.ListN.{drop, take}
+use borrow.Author.Tests.{eq-eqb, ne-eqb}
+use mir.Syntax.{w32}
+use mir.Val.{SFits, ofZ, toZ}
+use mir.Facts.{toZ-ofZ}
+use Rattle.entcode.specs.Sym.{Shape}
+use Rattle.entcode.specs.Sym.Shape.{bit as bitShape, table as tableShape, uint as uniformShape, raw as rawShape}
+use Rattle.entdec.specs.declared.Reader.{Reader}
+use Rattle.entdec.specs.declared.Answer.{Answer as Read}
+use Rattle.entdec.specs.declared.Answer.the-variants as read
+use Rattle.entdec.specs.Answer.{answer}
+use Rattle.entdec.specs.Rule.{refusalR}
+use Rattle.entdec.specs.Symbols.{readSym}
+use Rattle.entenc.specs.declared.Answer.{Answer as Wrote}
+use Rattle.entenc.specs.declared.Answer.the-variants as wrote
+use Rattle.entenc.specs.Answer.{After, after, writing}
+use Rattle.entenc.specs.Write.{Wr}
+use Rattle.laplace.specs.declared.LapRead.{LapRead}
+use Rattle.laplace.specs.declared.LapRead.the-variants as lapRead
+use Rattle.laplace.specs.declared.LapWrote.{LapWrote}
+use Rattle.laplace.specs.declared.LapWrote.the-variants as lapWrote
+use Rattle.laplace.specs.Answer as laplaceCalls
+use Rattle.laplace.specs.Model.{codeOf, valueAt}
+use Rattle.laplace.specs.declared.LapDone.{LapDone}
+use Rattle.laplace.specs.declared.LapSym.{LapSym}
+use Rattle.round_trip.specs.Calls.{Put, Took, putAs, putBy, putLap, readCall, symbol, tookAs, tookBy, tookLap, writeCall}
+use Rattle.round_trip.specs.Calls.Kind.{bit, table, uniform, raw, laplace}
+use Rattle.round_trip.specs.Calls.Put.{put, noPut}
+use Rattle.round_trip.specs.Calls.Took.{took, noTook}
+use Rattle.round_trip_run.specs.declared.given.Given.{Given}
+use Rattle.round_trip_run.specs.declared.writes.Put.{Put as PutAnswer}
+use Rattle.round_trip_run.specs.declared.reads.Took.{Took as TookAnswer}
+use Rattle.round_trip_run.specs.declared.writes.Put.the-variants as putAnswer
+use Rattle.round_trip_run.specs.declared.reads.Took.the-variants as tookAnswer
+use Rattle.round_trip_run.specs.Given.{laterOf, symbolOf}
+use Rattle.round_trip_run.specs.Steps.{countPut, countTook, lapPut, lapTook, plainPut, plainTook, putIs, putSymbol, takeSymbol, tookIs}
+
+-- ---- the kinds by their numbers
+
+module _ (g : Given) where
+  later-uniform : g .kind ≡ 2 → laterOf g ≡ symbol (uniform (g .first)) (g .count)
+  unfolding laterOf
+  later-uniform e = rw (eq-eqb (g .kind) 2 e)
+
+  later-raw : (g .kind ≡ 2 → ⊥) → g .kind ≡ 3 → laterOf g ≡ symbol (raw (g .first)) (g .count)
+  unfolding laterOf
+  later-raw p e = rw (ne-eqb (g .kind) 2 p, eq-eqb (g .kind) 3 e)
+
+  later-laplace : (g .kind ≡ 2 → ⊥) → (g .kind ≡ 3 → ⊥) → laterOf g ≡ symbol (laplace (g .first) (g .second)) (valueAt (g .count))
+  unfolding laterOf
+  later-laplace p q = rw (ne-eqb (g .kind) 2 p, ne-eqb (g .kind) 3 q)
+
+  module _ (t : List ℕ) where
+    of-bit : g .kind ≡ 0 → symbolOf g t ≡ symbol (bit (g .first)) (g .count)
+    unfolding symbolOf
+    of-bit e = rw (eq-eqb (g .kind) 0 e)
+
+    of-table : (g .kind ≡ 0 → ⊥) → g .kind ≡ 1 → symbolOf g t ≡ symbol (table (take (g .third) (drop (g .second) t)) (g .first)) (g .count)
+    unfolding symbolOf
+    of-table p e = rw (ne-eqb (g .kind) 0 p, eq-eqb (g .kind) 1 e)
+
+    pub of-later : (g .kind ≡ 0 → ⊥) → (g .kind ≡ 1 → ⊥) → symbolOf g t ≡ laterOf g
+    unfolding symbolOf
+    of-later p q = rw (ne-eqb (g .kind) 0 p, ne-eqb (g .kind) 1 q)
+
+-- ---- written
+
+put-plain : (r : Wrote) (v : ℕ) (l : List ℕ) → putIs (plainPut r v) l ≡ putBy v r l
+put-plain (wrote.Next w) v l = refl
+put-plain (wrote.Refused n) v l = refl
+
+-- a call that writes its value as it is
+plain-is : (h : Shape) (v : ℕ) (w : Wr) {x : PutAnswer} {r : Wrote} {l : List ℕ} → after r l ≡ writing h v w → x ≡ plainPut r v → putIs x l ≡ putAs h v w
+plain-is h v w {x} {r} {l} e p = ap (λ (y : PutAnswer). putIs y l) p ∙ put-plain r v l ∙ ap (λ (a : After). putBy v (a .said) (a .bytes)) e
+
+put-bit : (k : ℕ) (x : Put ℕ) → countPut (bit k) x ≡ x
+put-bit k (put v w) = refl
+put-bit k (noPut n) = refl
+
+put-table : (t : List ℕ) (k : ℕ) (x : Put ℕ) → countPut (table t k) x ≡ x
+put-table t k (put v w) = refl
+put-table t k (noPut n) = refl
+
+put-uniform : (k : ℕ) (x : Put ℕ) → countPut (uniform k) x ≡ x
+put-uniform k (put v w) = refl
+put-uniform k (noPut n) = refl
+
+put-raw : (k : ℕ) (x : Put ℕ) → countPut (raw k) x ≡ x
+put-raw k (put v w) = refl
+put-raw k (noPut n) = refl
+
+put-lap : (fs decay : ℕ) (r : LapWrote) (l : List ℕ) → putIs (lapPut r) l ≡ countPut (laplace fs decay) (putLap r l)
+put-lap fs decay (lapWrote.Next y) l = refl
+put-lap fs decay (lapWrote.Refused n) l = refl
+
+module _ (g : Given) (w : Wr) {x : PutAnswer} {l : List ℕ} where
+  pub wrote-uniform : {r : Wrote} → g .kind ≡ 2 → after r l ≡ writing (uniformShape (g .first)) (g .count) w → x ≡ plainPut r (g .count)
+      → putIs x l ≡ putSymbol (laterOf g) w
+  unfolding putSymbol writeCall
+  wrote-uniform h e p = rw (later-uniform g h, put-uniform) (plain-is (uniformShape (g .first)) (g .count) w e p)
+
+  pub wrote-raw : {r : Wrote} → (g .kind ≡ 2 → ⊥) → g .kind ≡ 3 → after r l ≡ writing (rawShape (g .first)) (g .count) w → x ≡ plainPut r (g .count)
+      → putIs x l ≡ putSymbol (laterOf g) w
+  unfolding putSymbol writeCall
+  wrote-raw q h e p = rw (later-raw g q h, put-raw) (plain-is (rawShape (g .first)) (g .count) w e p)
+
+  pub wrote-laplace : {r : LapWrote} (z : ℤ) → (g .kind ≡ 2 → ⊥) → (g .kind ≡ 3 → ⊥) → z ≡ valueAt (g .count)
+      → laplaceCalls.after r l ≡ laplaceCalls.writing (g .first) (g .second) z w → x ≡ lapPut r → putIs x l ≡ putSymbol (laterOf g) w
+  unfolding putSymbol writeCall
+  wrote-laplace {r} z q h v e p =
+      rw (later-laplace g q h, ← v)
+      (ap (λ (y : PutAnswer). putIs y l) p ∙ put-lap (g .first) (g .second) r l
+      ∙ ap (λ (a : laplaceCalls.After). countPut (laplace (g .first) (g .second)) (putLap (a .said) (a .bytes))) e)
+
+  module _ (t : List ℕ) where
+    pub wrote-bit : {r : Wrote} → g .kind ≡ 0 → after r l ≡ writing (bitShape (g .first)) (g .count) w → x ≡ plainPut r (g .count)
+        → putIs x l ≡ putSymbol (symbolOf g t) w
+    unfolding putSymbol writeCall
+    wrote-bit h e p = rw (of-bit g t h, put-bit) (plain-is (bitShape (g .first)) (g .count) w e p)
+
+    pub wrote-table : {r : Wrote} {u : List ℕ} → (g .kind ≡ 0 → ⊥) → g .kind ≡ 1 → u ≡ take (g .third) (drop (g .second) t)
+        → after r l ≡ writing (tableShape u (g .first)) (g .count) w → x ≡ plainPut r (g .count) → putIs x l ≡ putSymbol (symbolOf g t) w
+    unfolding putSymbol writeCall
+    wrote-table {u = u} q h i e p = rw (of-table g t q h, put-table, ← i) (plain-is (tableShape u (g .first)) (g .count) w e p)
+
+-- ---- read
+
+took-plain : (r : Read) → tookIs (plainTook r) ≡ tookBy r
+took-plain (read.Got y) = refl
+took-plain (read.Refused n) = refl
+
+read-is : (h : Shape) (s : List ℕ) (d : Reader) {x : TookAnswer} {r : Read} → r ≡ answer (refusalR h s d) (readSym h s d) → x ≡ plainTook r → tookIs x ≡ tookAs h s d
+read-is h s d {x} {r} e p = ap tookIs p ∙ took-plain r ∙ ap tookBy e
+
+took-bit : (k : ℕ) (x : Took ℕ) → countTook (bit k) x ≡ x
+took-bit k (took v d) = refl
+took-bit k (noTook n) = refl
+
+took-table : (t : List ℕ) (k : ℕ) (x : Took ℕ) → countTook (table t k) x ≡ x
+took-table t k (took v d) = refl
+took-table t k (noTook n) = refl
+
+took-uniform : (k : ℕ) (x : Took ℕ) → countTook (uniform k) x ≡ x
+took-uniform k (took v d) = refl
+took-uniform k (noTook n) = refl
+
+took-raw : (k : ℕ) (x : Took ℕ) → countTook (raw k) x ≡ x
+took-raw k (took v d) = refl
+took-raw k (noTook n) = refl
+
+took-lap : (fs decay : ℕ) (r : LapRead) → tookIs (lapTook r) ≡ countTook (laplace fs decay) (tookLap r)
+took-lap fs decay (lapRead.Got y) = refl
+took-lap fs decay (lapRead.Refused n) = refl
+
+module _ (g : Given) (s : List ℕ) (d : Reader) {x : TookAnswer} where
+  pub read-uniform : {r : Read} → g .kind ≡ 2 → r ≡ answer (refusalR (uniformShape (g .first)) s d) (readSym (uniformShape (g .first)) s d) → x ≡ plainTook r
+      → tookIs x ≡ takeSymbol (laterOf g) s d
+  unfolding takeSymbol readCall
+  read-uniform h e p = rw (later-uniform g h, took-uniform) (read-is (uniformShape (g .first)) s d e p)
+
+  pub read-raw : {r : Read} → (g .kind ≡ 2 → ⊥) → g .kind ≡ 3 → r ≡ answer (refusalR (rawShape (g .first)) s d) (readSym (rawShape (g .first)) s d) → x ≡ plainTook r
+      → tookIs x ≡ takeSymbol (laterOf g) s d
+  unfolding takeSymbol readCall
+  read-raw q h e p = rw (later-raw g q h, took-raw) (read-is (rawShape (g .first)) s d e p)
+
+  pub read-laplace : {r : LapRead} → (g .kind ≡ 2 → ⊥) → (g .kind ≡ 3 → ⊥) → r ≡ laplaceCalls.reading (g .first) (g .second) s d → x ≡ lapTook r
+      → tookIs x ≡ takeSymbol (laterOf g) s d
+  unfolding takeSymbol readCall
+  read-laplace {r} q h e p =
+      rw (later-laplace g q h)
+      (ap tookIs p ∙ took-lap (g .first) (g .second) r ∙ ap (λ (a : LapRead). countTook (laplace (g .first) (g .second)) (tookLap a)) e)
+
+  module _ (t : List ℕ) where
+    pub read-bit : {r : Read} → g .kind ≡ 0 → r ≡ answer (refusalR (bitShape (g .first)) s d) (readSym (bitShape (g .first)) s d) → x ≡ plainTook r
+        → tookIs x ≡ takeSymbol (symbolOf g t) s d
+    unfolding takeSymbol readCall
+    read-bit h e p = rw (of-bit g t h, took-bit) (read-is (bitShape (g .first)) s d e p)
+
+    pub read-table : {r : Read} {u : List ℕ} → (g .kind ≡ 0 → ⊥) → g .kind ≡ 1 → u ≡ take (g .third) (drop (g .second) t)
+        → r ≡ answer (refusalR (tableShape u (g .first)) s d) (readSym (tableShape u (g .first)) s d) → x ≡ plainTook r → tookIs x ≡ takeSymbol (symbolOf g t) s d
+    unfolding takeSymbol readCall
+    read-table {u = u} q h i e p = rw (of-table g t q h, took-table, ← i) (read-is (tableShape u (g .first)) s d e p)
+
+-- ---- the Laplace answers
+
+-- z as it was handed on
+pub code-told : (z : ℤ) {n : ℕ} → SFits w32 z → n ≡ codeOf (toZ w32 (ofZ w32 z)) → n ≡ codeOf z
+code-told z f e = e ∙ ap (λ (x : ℤ). codeOf x) (toZ-ofZ f)
+
+pub lap-next : (y : LapDone) {n : ℕ} {r : LapWrote} → r ≡ lapWrote.Next y → n ≡ codeOf (y .value) → putAnswer.Next (record { count = n; next = y .next }) ≡ lapPut r
+lap-next y p q = rw (p, q)
+
+pub lap-got : (y : LapSym) {n : ℕ} {r : LapRead} → r ≡ lapRead.Got y → n ≡ codeOf (y .value) → tookAnswer.Got (record { count = n; next = y .next }) ≡ lapTook r
+lap-got y p q = rw (p, q)

@@ -1,0 +1,54 @@
+-- `round_trip_run::back::read_on`: the symbols agree, by the theorem. Assumes nothing.
+use denote.Ref.{now}
+use Rattle.rate.specs.Question.{lists}
+use Rattle.round_trip_run.proofs.Backing.{back-differs, back-same, begins-same}
+use borrow.Author.Needs.{needs}
+use Rattle.round_trip_run.proofs.back.read_on.Statement.{statement}
+use Rattle.round_trip_run.proofs.back.read_on.Tie as tie
+
+same-tells-requires : tie.Need-same-tells-requires
+same-tells-requires c κs = search needs
+
+pair-row-requires : tie.Need-pair-row-requires
+pair-row-requires c κs = search needs
+
+enum-known-answer : tie.Need-enum-known-answer
+enum-known-answer c = search needs
+
+same-shares-requires : tie.Need-same-shares-requires
+same-shares-requires c κs =
+    let a = c .before .before .before .before .before .before .before .before .before .before .before .before .before .args in
+    back-same (now (a .symbols)) (now (a .tables)) (a .q) (now (a .offsets)) (now (a .caps)) (now (a .buf)) (a .w) (a .y) (lists (now (a .pulses)) (now (a .fine)) (now (a .priorities))) (now (a .s)) (a .d) (c .before .before .before .before .before .before .before .before .before .before .before .before .before .pre) (c .before .before .before .before .before .before .pair-row .result) (c .before .before .before .before .before .before .pair-row .last .1 .0) (c .before .before .before .before .before .before .pair-row .ensures) (c .before .before .answer .given .0 .0) (c .before .before .answer .given .1)
+
+enum-told : tie.Need-enum-told
+enum-told c = search needs
+
+same-length : tie.Need-same-length
+same-length c = search needs
+
+returns : tie.Need-returns
+returns c =
+    let a = c .before .before .before .before .before .before .before .before .before .before .before .before .before .before .args in
+    rw (c .before .before .before .before .before .before .before .before .before .same-tells .ensures, begins-same (now (a .symbols)) (now (a .tables)) (a .q) (now (a .offsets)) (now (a .caps)) (now (a .buf)) (a .w) (a .y) (lists (now (a .pulses)) (now (a .fine)) (now (a .priorities))) (now (a .s)) (a .d) (c .before .before .before .before .before .before .before .before .before .before .before .before .before .before .pre), c .same-shares .ensures)
+
+same-length-2 : tie.Need-same-length-2
+same-length-2 c = search needs
+
+returns-2 : tie.Need-returns-2
+returns-2 c =
+    let a = c .before .before .before .before .before .before .before .before .before .before .before .args in
+    back-differs (now (a .symbols)) (now (a .tables)) (a .q) (now (a .offsets)) (now (a .caps)) (now (a .buf)) (a .w) (a .y) (lists (now (a .pulses)) (now (a .fine)) (now (a .priorities))) (now (a .s)) (a .d) (c .before .before .before .before .before .before .before .before .before .before .before .pre) (c .before .before .before .before .pair-row .result) (c .before .before .before .before .pair-row .last .1 .0) (c .before .before .before .before .pair-row .ensures) (c .enum-told .given .1)
+
+pub read-on-spec : {M : Type 1} → statement M
+read-on-spec =
+    tie.close
+    (tie.spec
+    same-tells-requires
+    pair-row-requires
+    enum-known-answer
+    same-shares-requires
+    enum-told
+    same-length
+    returns
+    same-length-2
+    returns-2)

@@ -1,0 +1,50 @@
+-- `round_trip_run::sends::shut`. Assumes nothing.
+use denote.Ref.{now}
+use Rattle.entenc.specs.Write.{wr}
+use Rattle.round_trip_run.proofs.Outcomes.{close-is, close-said}
+use borrow.Author.Needs.{needs}
+use Rattle.round_trip_run.proofs.sends.shut.Statement.{statement}
+use Rattle.round_trip_run.proofs.sends.shut.Tie as tie
+
+close-requires : tie.Need-close-requires
+close-requires c κs = search needs
+
+enum-known-answer : tie.Need-enum-known-answer
+enum-known-answer c = search needs
+
+ended-requires : tie.Need-ended-requires
+ended-requires c κs =
+    let a = c .before .before .before .before .before .before .before .before .before .before .before .before .before .args in
+    record { filled = now (a .buf); shares = c .before .before .before .before .before .before .before .before .before .before .before .before .before .pre; closes = close-is (wr (a .y .next) (now (a .buf))) (c .before .before .before .before .before .before .close .ensures) (c .before .before .answer .given .0 .0) (c .before .before .answer .given .1) }
+
+enum-known-answer-2 : tie.Need-enum-known-answer-2
+enum-known-answer-2 c = search needs
+
+same-length : tie.Need-same-length
+same-length c = search needs
+
+returns : tie.Need-returns
+returns c =
+    let a = c .before .before .before .before .before .before .before .before .before .before .before .before .before .before .args in
+    rw (close-said (wr (a .y .next) (now (a .buf))) (c .before .before .before .before .before .before .before .close .ensures) (c .before .before .before .answer .given .1)) (c .ended .ensures)
+
+same-length-2 : tie.Need-same-length-2
+same-length-2 c = search needs
+
+returns-2 : tie.Need-returns-2
+returns-2 c =
+    let a = c .before .before .before .before .before .before .before .before .before .before .before .before .args in
+    rw (close-said (wr (a .y .next) (now (a .buf))) (c .before .before .before .before .before .close .ensures) (c .before .answer2 .given .1))
+
+pub shut-spec : {M : Type 1} → statement M
+shut-spec =
+    tie.close
+    (tie.spec
+    close-requires
+    enum-known-answer
+    ended-requires
+    enum-known-answer-2
+    same-length
+    returns
+    same-length-2
+    returns-2)

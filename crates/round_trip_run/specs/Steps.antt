@@ -1,0 +1,66 @@
+-- One symbol written, or read, with its value as a count; and what the code answers for it.
+use Prim.Native.Nat.{ℕ}
+use mathlib.Core.List.{List}
+use Rattle.entdec.specs.declared.Reader.{Reader}
+use Rattle.entdec.specs.declared.Answer.{Answer as Read}
+use Rattle.entdec.specs.declared.Answer.the-variants as read
+use Rattle.entenc.specs.declared.Answer.{Answer as Wrote}
+use Rattle.entenc.specs.declared.Answer.the-variants as wrote
+use Rattle.entenc.specs.Write.{Wr, wr}
+use Rattle.laplace.specs.declared.LapRead.{LapRead}
+use Rattle.laplace.specs.declared.LapRead.the-variants as lapRead
+use Rattle.laplace.specs.declared.LapWrote.{LapWrote}
+use Rattle.laplace.specs.declared.LapWrote.the-variants as lapWrote
+use Rattle.laplace.specs.Model.{codeOf}
+use Rattle.round_trip.specs.Calls.{Kind, Value, Symbol, countOf, Put, Took, writeCall, readCall}
+use Rattle.round_trip.specs.Calls.Put.{put, noPut}
+use Rattle.round_trip.specs.Calls.Took.{took, noTook}
+use Rattle.round_trip_run.specs.declared.writes.Put.{Put as PutAnswer}
+use Rattle.round_trip_run.specs.declared.writes.Put.the-variants as putAnswer
+use Rattle.round_trip_run.specs.declared.reads.Took.{Took as TookAnswer}
+use Rattle.round_trip_run.specs.declared.reads.Took.the-variants as tookAnswer
+
+-- ---- written
+
+abbrev pub countPut : (k : Kind) → Put (Value k) → Put ℕ
+countPut k (put v w) = put (countOf k v) w
+countPut k (noPut n) = noPut n
+
+unfoldable pub putSymbol : Symbol → Wr → Put ℕ
+putSymbol y w = countPut (y .kind) (writeCall (y .kind) (y .value) w)
+
+-- what the code answers, with the bytes then
+abbrev pub putIs : PutAnswer → List ℕ → Put ℕ
+putIs (putAnswer.Next y) bytes = put (y .count) (wr (y .next) bytes)
+putIs (putAnswer.Refused n) bytes = noPut n
+
+-- a call's answer as the code's
+abbrev pub plainPut : Wrote → ℕ → PutAnswer
+plainPut (wrote.Next w) v = putAnswer.Next (record { count = v; next = w })
+plainPut (wrote.Refused n) v = putAnswer.Refused n
+
+abbrev pub lapPut : LapWrote → PutAnswer
+lapPut (lapWrote.Next y) = putAnswer.Next (record { count = codeOf (y .value); next = y .next })
+lapPut (lapWrote.Refused n) = putAnswer.Refused n
+
+-- ---- read
+
+abbrev pub countTook : (k : Kind) → Took (Value k) → Took ℕ
+countTook k (took v d) = took (countOf k v) d
+countTook k (noTook n) = noTook n
+
+-- of the symbol's kind; its value is not looked at
+unfoldable pub takeSymbol : Symbol → List ℕ → Reader → Took ℕ
+takeSymbol y s d = countTook (y .kind) (readCall (y .kind) s d)
+
+abbrev pub tookIs : TookAnswer → Took ℕ
+tookIs (tookAnswer.Got y) = took (y .count) (y .next)
+tookIs (tookAnswer.Refused n) = noTook n
+
+abbrev pub plainTook : Read → TookAnswer
+plainTook (read.Got y) = tookAnswer.Got (record { count = y .value; next = y .next })
+plainTook (read.Refused n) = tookAnswer.Refused n
+
+abbrev pub lapTook : LapRead → TookAnswer
+lapTook (lapRead.Got y) = tookAnswer.Got (record { count = codeOf (y .value); next = y .next })
+lapTook (lapRead.Refused n) = tookAnswer.Refused n

@@ -1,0 +1,66 @@
+// Document 01's third demand, run: symbols and an allocation are written, closed, read back and compared.
+use entenc::Answer;
+use entenc::Writer;
+use rate::Numbers;
+ghost use mathlib.Core.Path.{_≡_};
+ghost use Rattle.round_trip_run.specs.Given.{symbolsOf};
+ghost use Rattle.round_trip_run.specs.Outcome.{outcomeOf};
+ghost use Rattle.round_trip_run.specs.Shares.{wishesOf};
+
+pub mod back;
+pub mod given;
+pub mod reads;
+pub mod rows;
+pub mod sends;
+pub mod shares;
+pub mod writes;
+
+// What an encoder is told: the first band whose channels it wants coded as one, whether the others are apart, the band count of the frame
+// before and the signal's bandwidth.
+pub struct Wishes {
+    pub intensity: i32,
+    pub dual: i32,
+    pub previous: i32,
+    pub bandwidth: i32,
+}
+
+// A call of the writer: the new writer, the symbol at a place, the allocation, the close.
+pub enum Call {
+    New,
+    Symbol(usize),
+    Allocation,
+    Close,
+}
+
+// How a trip ends: the reader agreed, the writer was refused by a call with a number, close reported an error, or the reader did not agree.
+pub enum Outcome {
+    Agreed,
+    Refused(Call, u32),
+    NotClosed,
+    Disagreed,
+}
+
+// Writes symbols and an allocation over the bytes, closes, reads all back and compares: values, tell and tell_frac after each symbol, and the
+// allocation's numbers and lists. A symbol is five numbers: its kind (0 bit, 1 table, 2 uniform, 3 raw, else Laplace), the count of its value,
+// and the kind's numbers; a table's entries are a part of `tables`.
+pub fn round_trip(
+    bytes: &[u8],
+    symbols: &[u32],
+    tables: &[u8],
+    q: Numbers,
+    h: Wishes,
+    offsets: &[i32],
+    caps: &[i32],
+) -> Outcome
+    ensures { λ r.
+        ⌜ r ≡ outcomeOf q (now (offsets .entry)) (now (caps .entry)) (wishesOf h) (now (bytes .entry)) (symbolsOf (now (symbols .entry)) (now (tables .entry))) ⌝ }
+{
+    let answer = Writer::new(bytes);
+    match answer {
+        Answer::Next(w) => sends::begin(w, bytes, symbols, tables, q, h, offsets, caps),
+        Answer::Refused(no) => {
+            let by = Call::New;
+            Outcome::Refused(by, no)
+        }
+    }
+}

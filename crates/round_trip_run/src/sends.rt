@@ -1,0 +1,223 @@
+// The writer's side of a trip, step by step; the last step hands over to the reader's side.
+use super::Call;
+use super::Outcome;
+use super::Wishes;
+use super::back;
+use super::rows;
+use super::rows::Row;
+use super::shares;
+use entenc::Answer;
+use entenc::Writer;
+use rate::AllocWrote;
+use rate::Numbers;
+use rate::WrittenAllocation;
+ghost use mathlib.Core.Path.{_≡_};
+ghost use mathlib.Core.Bool.{cond};
+ghost use lib.ListN.{length};
+ghost use Rattle.entenc.specs.Write.{wr};
+ghost use Rattle.entenc.specs.Answer.{closing, startOf};
+ghost use Rattle.entenc.specs.declared.Answer.the-variants.{Next};
+ghost use Rattle.rate.specs.Answer.{writing};
+ghost use Rattle.rate.specs.Question.{lists};
+ghost use Rattle.round_trip.specs.Rows.{writeAll};
+ghost use Rattle.round_trip_run.specs.declared.Outcome.the-variants.{Agreed, NotClosed};
+ghost use Rattle.round_trip_run.specs.Given.{symbolsOf};
+ghost use Rattle.round_trip_run.specs.Outcome.{allotOutcome, blank, closeOutcome, rowOutcome};
+ghost use Rattle.round_trip_run.specs.Shares.{wishesOf};
+ghost use Rattle.round_trip_run.specs.Sends.{RowBy, ShareBy, ShutBy};
+
+// The packet s is closed with u; where that reported no error, it is read back.
+fn ended(
+    w: Writer,
+    y: WrittenAllocation,
+    u: Writer,
+    bytes: &[u8],
+    s: &[u8],
+    symbols: &[u32],
+    tables: &[u8],
+    q: Numbers,
+    offsets: &[i32],
+    caps: &[i32],
+    pulses: &[i32],
+    fine: &[i32],
+    priorities: &[i32],
+) -> Outcome
+    requires { ⌜ ShutBy (symbolsOf (now symbols) (now tables)) q (now offsets) (now caps) (now bytes) w y (lists (now pulses) (now fine) (now priorities)) u (now s) ⌝ }
+    ensures { λ r. ⌜ r ≡ cond (u .sink .error) NotClosed Agreed ⌝ }
+{
+    let sink = u.sink;
+    if sink.error {
+        return Outcome::NotClosed;
+    }
+    if back::compare(
+        w,
+        y,
+        bytes,
+        s,
+        symbols,
+        tables,
+        q,
+        offsets,
+        caps,
+        pulses,
+        fine,
+        priorities,
+    ) {
+        return Outcome::Agreed;
+    }
+    Outcome::Disagreed
+}
+
+// Closes, after the allocation y.
+fn shut(
+    w: Writer,
+    y: WrittenAllocation,
+    bytes: &[u8],
+    buf: &mut [u8],
+    symbols: &[u32],
+    tables: &[u8],
+    q: Numbers,
+    offsets: &[i32],
+    caps: &[i32],
+    pulses: &[i32],
+    fine: &[i32],
+    priorities: &[i32],
+) -> Outcome
+    requires { ⌜ ShareBy (symbolsOf (now symbols) (now tables)) q (now offsets) (now caps) (now bytes) w y (lists (now pulses) (now fine) (now priorities)) (now buf) ⌝ }
+    ensures { λ r. ⌜ r ≡ closeOutcome (closing (wr (y .next) (now (buf .entry))) .said) ⌝ }
+{
+    let last = y.next;
+    let answer = last.close(buf);
+    match answer {
+        Answer::Next(u) => ended(
+            w,
+            y,
+            u,
+            bytes,
+            buf,
+            symbols,
+            tables,
+            q,
+            offsets,
+            caps,
+            pulses,
+            fine,
+            priorities,
+        ),
+        Answer::Refused(no) => {
+            let by = Call::Close;
+            Outcome::Refused(by, no)
+        }
+    }
+}
+
+// Writes the allocation, after the symbols.
+fn allot(
+    w: Writer,
+    v: Writer,
+    bytes: &[u8],
+    buf: &mut [u8],
+    symbols: &[u32],
+    tables: &[u8],
+    q: Numbers,
+    h: Wishes,
+    offsets: &[i32],
+    caps: &[i32],
+) -> Outcome
+    requires { ⌜ RowBy (symbolsOf (now symbols) (now tables)) (now bytes) w (wr v (now buf)) ⌝ }
+    ensures { λ r.
+        ⌜ r ≡ allotOutcome (writing q (wishesOf h) (now (offsets .entry)) (now (caps .entry)) (wr v (now (buf .entry))) blank .said)
+        (writing q (wishesOf h) (now (offsets .entry)) (now (caps .entry)) (wr v (now (buf .entry))) blank .bytes) ⌝ }
+{
+    let mut pulses = [0i32; 21];
+    let mut fine = [0i32; 21];
+    let mut priorities = [0i32; 21];
+    let answer = shares::write_shares(
+        v,
+        buf,
+        q,
+        h,
+        offsets,
+        caps,
+        &mut pulses,
+        &mut fine,
+        &mut priorities,
+    );
+    match answer {
+        AllocWrote::Got(y) => shut(
+            w,
+            y,
+            bytes,
+            buf,
+            symbols,
+            tables,
+            q,
+            offsets,
+            caps,
+            &pulses,
+            &fine,
+            &priorities,
+        ),
+        AllocWrote::Refused(no) => {
+            let by = Call::Allocation;
+            Outcome::Refused(by, no)
+        }
+    }
+}
+
+// Writes the symbols over a copy of the bytes.
+fn send(
+    w: Writer,
+    bytes: &[u8],
+    buf: &mut [u8],
+    symbols: &[u32],
+    tables: &[u8],
+    q: Numbers,
+    h: Wishes,
+    offsets: &[i32],
+    caps: &[i32],
+) -> Outcome
+    requires { ⌜ (startOf (length (now bytes)) ≡ Next w) × (length (now buf) ≡ length (now bytes)) ⌝ }
+    ensures { λ r.
+        ⌜ r ≡ rowOutcome q (now (offsets .entry)) (now (caps .entry)) (wishesOf h) (writeAll (symbolsOf (now (symbols .entry)) (now (tables .entry))) (wr w (now (bytes .entry)))) ⌝ }
+{
+    shares::copy(bytes, buf);
+    let row = rows::write_row(w, buf, symbols, tables);
+    match row {
+        Row::Wrote(v) => allot(w, v, bytes, buf, symbols, tables, q, h, offsets, caps),
+        Row::Refused(i, no) => {
+            let by = Call::Symbol(i);
+            Outcome::Refused(by, no)
+        }
+    }
+}
+
+// The bytes get room of their own.
+pub fn begin(
+    w: Writer,
+    bytes: &[u8],
+    symbols: &[u32],
+    tables: &[u8],
+    q: Numbers,
+    h: Wishes,
+    offsets: &[i32],
+    caps: &[i32],
+) -> Outcome
+    requires { ⌜ startOf (length (now bytes)) ≡ Next w ⌝ }
+    ensures { λ r.
+        ⌜ r ≡ rowOutcome q (now (offsets .entry)) (now (caps .entry)) (wishesOf h) (writeAll (symbolsOf (now (symbols .entry)) (now (tables .entry))) (wr w (now (bytes .entry)))) ⌝ }
+{
+    let n = bytes.len();
+    let mut room = [0u8; 1275];
+    send(
+        w,
+        bytes,
+        &mut room[..n],
+        symbols,
+        tables,
+        q,
+        h,
+        offsets,
+        caps,
+    )
+}
