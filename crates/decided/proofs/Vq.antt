@@ -1,0 +1,16 @@
+-- vq: any two results that a contract allows are equal. Written by tools/decided.
+use Prim.Native.Nat.{ℕ}
+use Rattle.decided.proofs.One.{one}
+use Rattle.entdec.specs.declared.Reader.{Reader}
+use Rattle.vq.specs.Answer.{Formed, asked, formed, unquantised}
+use Rattle.vq.specs.declared.Shaped.{Shaped}
+use lib.Ieee.{Float}
+use lib.IntN.{ℤ}
+use mathlib.Core.List.{List}
+use mathlib.Core.Path.{_≡_, ap}
+
+-- alg_unquant
+pub alg-unquant : (d : Reader) (s : List ℕ) (shape : List Float) (n : ℤ) (k : ℤ) (spread : ℤ) (b : ℤ) (gain : Float) (r₁ r₂ : Shaped) (shape-after₁ shape-after₂ : List Float)
+    → formed r₁ shape-after₁ ≡ unquantised (asked n k spread b gain) s d shape → formed r₂ shape-after₂ ≡ unquantised (asked n k spread b gain) s d shape
+    → (r₁ ≡ r₂) × (shape-after₁ ≡ shape-after₂)
+alg-unquant d s shape n k spread b gain r₁ r₂ shape-after₁ shape-after₂ e₁ e₂ = (ap (λ (x : Formed). x .said) (one e₁ e₂), ap (λ (x : Formed). x .shape) (one e₁ e₂))

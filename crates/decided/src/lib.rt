@@ -1,0 +1,1 @@
+// Nothing to run: what is shown here is in proofs.
