@@ -1,0 +1,39 @@
+//! Has the Rattle kit prove the crate `celt` and write libcelt.a, and links that.
+
+use std::env;
+use std::path::Path;
+use std::process::{exit, Command};
+
+fn stop(why: &str) -> ! {
+    eprintln!("celt: {why}");
+    exit(1)
+}
+
+fn main() {
+    let here = env::var("CARGO_MANIFEST_DIR").expect("cargo sets CARGO_MANIFEST_DIR");
+    let root = match Path::new(&here).join("../..").canonicalize() {
+        Ok(root) if root.join("crates.txt").is_file() => root,
+        _ => stop("this crate stands in bindings/rust of its repository, beside crates.txt, and builds nothing elsewhere"),
+    };
+    let of = |what: &str| env::var(format!("CARGO_CFG_TARGET_{what}")).unwrap_or_default();
+    if (of("ARCH").as_str(), of("OS").as_str()) != ("x86_64", "linux") {
+        stop("the Rattle kit compiles for x86-64 Linux only");
+    }
+    println!("cargo:rerun-if-changed=build.rs");
+    println!("cargo:rerun-if-changed={}", root.join("crates.txt").display());
+    println!("cargo:rerun-if-changed={}", root.join("crates").display());
+
+    match Command::new("rt").args(["staticlib", "celt"]).current_dir(&root).output() {
+        Err(e) => stop(&format!(
+            "libcelt.a is proved and built by the Rattle kit, and its command `rt` cannot be run ({e}). Put the kit's bin folder on the PATH; \
+             the repository's README.md, \"Run and test\", says which kit"
+        )),
+        Ok(done) if !done.status.success() => {
+            eprintln!("{}{}", String::from_utf8_lossy(&done.stdout), String::from_utf8_lossy(&done.stderr));
+            stop("`rt staticlib celt` failed, so there is nothing to link: what it said stands above")
+        }
+        Ok(_) => {}
+    }
+    println!("cargo:rustc-link-search=native={}", root.join("target/staticlib").display());
+    println!("cargo:rustc-link-lib=static=celt");
+}

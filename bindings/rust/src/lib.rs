@@ -1,0 +1,40 @@
+//! CELT's range coder (RFC 6716), its Laplace values, pulse words, lookups and bit allocation.
+//!
+//! Every call runs code that the Rattle prover has proved: it takes any bytes and numbers, ends, and either gives what the RFC's definition
+//! gives or refuses with a number ([`Refusal`]) and changes nothing. This crate adds no logic: [`Reader`] and [`Writer`] hold a coder's state
+//! and its bytes, and [`raw`] has the exported calls themselves, over slices of any length.
+//!
+//! ```
+//! # fn main() -> Result<(), celt::Refusal> {
+//! let mut bytes = [0; 10];
+//! let mut writer = celt::Writer::new(&mut bytes)?;
+//! writer.uint(70_000, 100_000)?;
+//! writer.bits(5, 3)?;
+//! writer.close()?;
+//! assert!(!writer.error());
+//!
+//! let mut reader = celt::Reader::new(&bytes)?;
+//! assert_eq!(reader.uint(100_000)?, 70_000);
+//! assert_eq!(reader.bits(3)?, 5);
+//! assert_eq!(reader.bits(26), Err(celt::Refusal::Number));
+//! # Ok(())
+//! # }
+//! ```
+
+mod allocation;
+mod lookups;
+pub mod raw;
+mod reader;
+mod refusal;
+mod state;
+mod writer;
+
+pub use allocation::{Allocation, Frame, Wishes, BANDS};
+pub use lookups::{bits2pulses, get_pulses, pulses2bits};
+pub use reader::Reader;
+pub use refusal::Refusal;
+pub use state::State;
+pub use writer::Writer;
+
+/// How many places a pulse vector has room for.
+pub const ROOM: usize = 176;

@@ -1,0 +1,499 @@
+//! The exported calls, over slices of any length: each answers 0, or the number of a refusal, and then every slice is as it was.
+//!
+//! A state is twelve numbers ([`crate::State`] names them). A slice that is lent for one result has one element.
+//!
+//! ```
+//! let mut value = [0];
+//! assert_eq!(celt::raw::get_pulses(23, &mut value), 0);
+//! assert_eq!(value, [30]);
+//! assert_eq!(celt::raw::get_pulses(41, &mut value), 1);
+//! assert_eq!(celt::raw::get_pulses(23, &mut []), 2);
+//! assert_eq!(value, [30]);
+//! ```
+
+/// The calls of libcelt.a. A slice crosses as its pointer and its length.
+mod exported {
+    extern "C" {
+        pub fn celt_dec_new(state: *mut i64, state_n: usize, packet: *const u8, packet_n: usize) -> u32;
+        pub fn celt_dec_bit_logp(
+            state: *mut i64,
+            state_n: usize,
+            packet: *const u8,
+            packet_n: usize,
+            logp: u32,
+            value: *mut u32,
+            value_n: usize,
+        ) -> u32;
+        pub fn celt_dec_icdf(
+            state: *mut i64,
+            state_n: usize,
+            packet: *const u8,
+            packet_n: usize,
+            table: *const u8,
+            table_n: usize,
+            ftb: u32,
+            value: *mut u32,
+            value_n: usize,
+        ) -> u32;
+        pub fn celt_dec_uint(
+            state: *mut i64,
+            state_n: usize,
+            packet: *const u8,
+            packet_n: usize,
+            ft: u32,
+            value: *mut u32,
+            value_n: usize,
+        ) -> u32;
+        pub fn celt_dec_bits(
+            state: *mut i64,
+            state_n: usize,
+            packet: *const u8,
+            packet_n: usize,
+            n: u32,
+            value: *mut u32,
+            value_n: usize,
+        ) -> u32;
+        pub fn celt_dec_tell(state: *const i64, state_n: usize, value: *mut u32, value_n: usize) -> u32;
+        pub fn celt_dec_tell_frac(state: *const i64, state_n: usize, value: *mut u32, value_n: usize) -> u32;
+        pub fn celt_enc_new(state: *mut i64, state_n: usize, buf: *const u8, buf_n: usize) -> u32;
+        pub fn celt_enc_bit_logp(state: *mut i64, state_n: usize, buf: *mut u8, buf_n: usize, value: u32, logp: u32) -> u32;
+        pub fn celt_enc_icdf(
+            state: *mut i64,
+            state_n: usize,
+            buf: *mut u8,
+            buf_n: usize,
+            s: u32,
+            table: *const u8,
+            table_n: usize,
+            ftb: u32,
+        ) -> u32;
+        pub fn celt_enc_uint(state: *mut i64, state_n: usize, buf: *mut u8, buf_n: usize, fl: u32, ft: u32) -> u32;
+        pub fn celt_enc_bits(state: *mut i64, state_n: usize, buf: *mut u8, buf_n: usize, v: u32, n: u32) -> u32;
+        pub fn celt_enc_close(state: *mut i64, state_n: usize, buf: *mut u8, buf_n: usize) -> u32;
+        pub fn celt_enc_tell(state: *const i64, state_n: usize, value: *mut u32, value_n: usize) -> u32;
+        pub fn celt_enc_tell_frac(state: *const i64, state_n: usize, value: *mut u32, value_n: usize) -> u32;
+        pub fn celt_laplace_decode(
+            state: *mut i64,
+            state_n: usize,
+            packet: *const u8,
+            packet_n: usize,
+            fs: u32,
+            decay: u32,
+            value: *mut i32,
+            value_n: usize,
+        ) -> u32;
+        pub fn celt_laplace_encode(
+            state: *mut i64,
+            state_n: usize,
+            buf: *mut u8,
+            buf_n: usize,
+            z: i32,
+            fs: u32,
+            decay: u32,
+            value: *mut i32,
+            value_n: usize,
+        ) -> u32;
+        pub fn celt_decode_pulses(
+            state: *mut i64,
+            state_n: usize,
+            packet: *const u8,
+            packet_n: usize,
+            y: *mut i32,
+            y_n: usize,
+            n: u32,
+            k: u32,
+            energy: *mut u32,
+            energy_n: usize,
+        ) -> u32;
+        pub fn celt_encode_pulses(
+            state: *mut i64,
+            state_n: usize,
+            buf: *mut u8,
+            buf_n: usize,
+            y: *const i32,
+            y_n: usize,
+            n: u32,
+            k: u32,
+        ) -> u32;
+        pub fn celt_get_pulses(i: i32, value: *mut u32, value_n: usize) -> u32;
+        pub fn celt_bits2pulses(band: i32, lm: i32, bits: i32, value: *mut u32, value_n: usize) -> u32;
+        pub fn celt_pulses2bits(band: i32, lm: i32, pulses: i32, value: *mut u32, value_n: usize) -> u32;
+        pub fn celt_compute_allocation_read(
+            state: *mut i64,
+            state_n: usize,
+            packet: *const u8,
+            packet_n: usize,
+            c: i32,
+            lm: i32,
+            start: i32,
+            end: i32,
+            trim: i32,
+            total: i32,
+            offsets: *const i32,
+            offsets_n: usize,
+            caps: *const i32,
+            caps_n: usize,
+            pulses: *mut i32,
+            pulses_n: usize,
+            fine: *mut i32,
+            fine_n: usize,
+            priorities: *mut i32,
+            priorities_n: usize,
+            shown: *mut i32,
+            shown_n: usize,
+        ) -> u32;
+        pub fn celt_compute_allocation_write(
+            state: *mut i64,
+            state_n: usize,
+            buf: *mut u8,
+            buf_n: usize,
+            c: i32,
+            lm: i32,
+            start: i32,
+            end: i32,
+            trim: i32,
+            total: i32,
+            intensity: i32,
+            dual: i32,
+            previous: i32,
+            bandwidth: i32,
+            offsets: *const i32,
+            offsets_n: usize,
+            caps: *const i32,
+            caps_n: usize,
+            pulses: *mut i32,
+            pulses_n: usize,
+            fine: *mut i32,
+            fine_n: usize,
+            priorities: *mut i32,
+            priorities_n: usize,
+            shown: *mut i32,
+            shown_n: usize,
+        ) -> u32;
+    }
+}
+
+// Each call below is safe: the exported function takes any number and any length, writes only into the slices that it is lent mutably, and
+// keeps no pointer. A borrow of each slice rules out that two of them overlap where one is written.
+
+// ---- Reading
+
+/// A new reader of a packet.
+pub fn dec_new(state: &mut [i64], packet: &[u8]) -> u32 {
+    unsafe { exported::celt_dec_new(state.as_mut_ptr(), state.len(), packet.as_ptr(), packet.len()) }
+}
+
+/// One bit that is 1 with a probability of 1 in 2^logp.
+pub fn dec_bit_logp(state: &mut [i64], packet: &[u8], logp: u32, value: &mut [u32]) -> u32 {
+    unsafe {
+        exported::celt_dec_bit_logp(
+            state.as_mut_ptr(),
+            state.len(),
+            packet.as_ptr(),
+            packet.len(),
+            logp,
+            value.as_mut_ptr(),
+            value.len(),
+        )
+    }
+}
+
+/// A symbol of a table of 2^ftb places.
+pub fn dec_icdf(state: &mut [i64], packet: &[u8], table: &[u8], ftb: u32, value: &mut [u32]) -> u32 {
+    unsafe {
+        exported::celt_dec_icdf(
+            state.as_mut_ptr(),
+            state.len(),
+            packet.as_ptr(),
+            packet.len(),
+            table.as_ptr(),
+            table.len(),
+            ftb,
+            value.as_mut_ptr(),
+            value.len(),
+        )
+    }
+}
+
+/// A number below ft, all alike.
+pub fn dec_uint(state: &mut [i64], packet: &[u8], ft: u32, value: &mut [u32]) -> u32 {
+    unsafe {
+        exported::celt_dec_uint(
+            state.as_mut_ptr(),
+            state.len(),
+            packet.as_ptr(),
+            packet.len(),
+            ft,
+            value.as_mut_ptr(),
+            value.len(),
+        )
+    }
+}
+
+/// n raw bits from the end of the packet.
+pub fn dec_bits(state: &mut [i64], packet: &[u8], n: u32, value: &mut [u32]) -> u32 {
+    unsafe {
+        exported::celt_dec_bits(
+            state.as_mut_ptr(),
+            state.len(),
+            packet.as_ptr(),
+            packet.len(),
+            n,
+            value.as_mut_ptr(),
+            value.len(),
+        )
+    }
+}
+
+/// How many bits a reader has used.
+pub fn dec_tell(state: &[i64], value: &mut [u32]) -> u32 {
+    unsafe { exported::celt_dec_tell(state.as_ptr(), state.len(), value.as_mut_ptr(), value.len()) }
+}
+
+/// How many eighths of a bit a reader has used.
+pub fn dec_tell_frac(state: &[i64], value: &mut [u32]) -> u32 {
+    unsafe { exported::celt_dec_tell_frac(state.as_ptr(), state.len(), value.as_mut_ptr(), value.len()) }
+}
+
+// ---- Writing
+
+/// A new writer over the bytes.
+pub fn enc_new(state: &mut [i64], buf: &[u8]) -> u32 {
+    unsafe { exported::celt_enc_new(state.as_mut_ptr(), state.len(), buf.as_ptr(), buf.len()) }
+}
+
+/// One bit, which is 1 in one of 2^logp places.
+pub fn enc_bit_logp(state: &mut [i64], buf: &mut [u8], value: u32, logp: u32) -> u32 {
+    unsafe { exported::celt_enc_bit_logp(state.as_mut_ptr(), state.len(), buf.as_mut_ptr(), buf.len(), value, logp) }
+}
+
+/// The symbol s of a table of 2^ftb places.
+pub fn enc_icdf(state: &mut [i64], buf: &mut [u8], s: u32, table: &[u8], ftb: u32) -> u32 {
+    unsafe {
+        exported::celt_enc_icdf(
+            state.as_mut_ptr(),
+            state.len(),
+            buf.as_mut_ptr(),
+            buf.len(),
+            s,
+            table.as_ptr(),
+            table.len(),
+            ftb,
+        )
+    }
+}
+
+/// A number fl below ft.
+pub fn enc_uint(state: &mut [i64], buf: &mut [u8], fl: u32, ft: u32) -> u32 {
+    unsafe { exported::celt_enc_uint(state.as_mut_ptr(), state.len(), buf.as_mut_ptr(), buf.len(), fl, ft) }
+}
+
+/// n raw bits of v.
+pub fn enc_bits(state: &mut [i64], buf: &mut [u8], v: u32, n: u32) -> u32 {
+    unsafe { exported::celt_enc_bits(state.as_mut_ptr(), state.len(), buf.as_mut_ptr(), buf.len(), v, n) }
+}
+
+/// The last bytes; nothing may be written after it.
+pub fn enc_close(state: &mut [i64], buf: &mut [u8]) -> u32 {
+    unsafe { exported::celt_enc_close(state.as_mut_ptr(), state.len(), buf.as_mut_ptr(), buf.len()) }
+}
+
+/// How many bits a writer has used.
+pub fn enc_tell(state: &[i64], value: &mut [u32]) -> u32 {
+    unsafe { exported::celt_enc_tell(state.as_ptr(), state.len(), value.as_mut_ptr(), value.len()) }
+}
+
+/// How many eighths of a bit a writer has used.
+pub fn enc_tell_frac(state: &[i64], value: &mut [u32]) -> u32 {
+    unsafe { exported::celt_enc_tell_frac(state.as_ptr(), state.len(), value.as_mut_ptr(), value.len()) }
+}
+
+// ---- Laplace values
+
+/// A Laplace value of the pair fs and decay.
+pub fn laplace_decode(state: &mut [i64], packet: &[u8], fs: u32, decay: u32, value: &mut [i32]) -> u32 {
+    unsafe {
+        exported::celt_laplace_decode(
+            state.as_mut_ptr(),
+            state.len(),
+            packet.as_ptr(),
+            packet.len(),
+            fs,
+            decay,
+            value.as_mut_ptr(),
+            value.len(),
+        )
+    }
+}
+
+/// The Laplace value z of the pair fs and decay; what counts as written goes into value.
+pub fn laplace_encode(state: &mut [i64], buf: &mut [u8], z: i32, fs: u32, decay: u32, value: &mut [i32]) -> u32 {
+    unsafe {
+        exported::celt_laplace_encode(
+            state.as_mut_ptr(),
+            state.len(),
+            buf.as_mut_ptr(),
+            buf.len(),
+            z,
+            fs,
+            decay,
+            value.as_mut_ptr(),
+            value.len(),
+        )
+    }
+}
+
+// ---- Pulse words
+
+/// A vector of n places and k pulses into the first n of 176 places.
+pub fn decode_pulses(state: &mut [i64], packet: &[u8], y: &mut [i32], n: u32, k: u32, energy: &mut [u32]) -> u32 {
+    unsafe {
+        exported::celt_decode_pulses(
+            state.as_mut_ptr(),
+            state.len(),
+            packet.as_ptr(),
+            packet.len(),
+            y.as_mut_ptr(),
+            y.len(),
+            n,
+            k,
+            energy.as_mut_ptr(),
+            energy.len(),
+        )
+    }
+}
+
+/// The vector of k pulses that stands in the first n of 176 places.
+pub fn encode_pulses(state: &mut [i64], buf: &mut [u8], y: &[i32], n: u32, k: u32) -> u32 {
+    unsafe {
+        exported::celt_encode_pulses(
+            state.as_mut_ptr(),
+            state.len(),
+            buf.as_mut_ptr(),
+            buf.len(),
+            y.as_ptr(),
+            y.len(),
+            n,
+            k,
+        )
+    }
+}
+
+// ---- Lookups
+
+/// The number of pulses that an index of the cache stands for.
+pub fn get_pulses(i: i32, value: &mut [u32]) -> u32 {
+    unsafe { exported::celt_get_pulses(i, value.as_mut_ptr(), value.len()) }
+}
+
+/// The index of pulses whose cost is nearest to the bits.
+pub fn bits2pulses(band: i32, lm: i32, bits: i32, value: &mut [u32]) -> u32 {
+    unsafe { exported::celt_bits2pulses(band, lm, bits, value.as_mut_ptr(), value.len()) }
+}
+
+/// What an index of pulses costs.
+pub fn pulses2bits(band: i32, lm: i32, pulses: i32, value: &mut [u32]) -> u32 {
+    unsafe { exported::celt_pulses2bits(band, lm, pulses, value.as_mut_ptr(), value.len()) }
+}
+
+// ---- Bit allocation
+
+/// Reads an allocation: the bands go into three lists of 21, coded bands, balance, intensity and dual stereo into shown.
+#[allow(clippy::too_many_arguments)]
+pub fn compute_allocation_read(
+    state: &mut [i64],
+    packet: &[u8],
+    c: i32,
+    lm: i32,
+    start: i32,
+    end: i32,
+    trim: i32,
+    total: i32,
+    offsets: &[i32],
+    caps: &[i32],
+    pulses: &mut [i32],
+    fine: &mut [i32],
+    priorities: &mut [i32],
+    shown: &mut [i32],
+) -> u32 {
+    unsafe {
+        exported::celt_compute_allocation_read(
+            state.as_mut_ptr(),
+            state.len(),
+            packet.as_ptr(),
+            packet.len(),
+            c,
+            lm,
+            start,
+            end,
+            trim,
+            total,
+            offsets.as_ptr(),
+            offsets.len(),
+            caps.as_ptr(),
+            caps.len(),
+            pulses.as_mut_ptr(),
+            pulses.len(),
+            fine.as_mut_ptr(),
+            fine.len(),
+            priorities.as_mut_ptr(),
+            priorities.len(),
+            shown.as_mut_ptr(),
+            shown.len(),
+        )
+    }
+}
+
+/// Writes an allocation.
+#[allow(clippy::too_many_arguments)]
+pub fn compute_allocation_write(
+    state: &mut [i64],
+    buf: &mut [u8],
+    c: i32,
+    lm: i32,
+    start: i32,
+    end: i32,
+    trim: i32,
+    total: i32,
+    intensity: i32,
+    dual: i32,
+    previous: i32,
+    bandwidth: i32,
+    offsets: &[i32],
+    caps: &[i32],
+    pulses: &mut [i32],
+    fine: &mut [i32],
+    priorities: &mut [i32],
+    shown: &mut [i32],
+) -> u32 {
+    unsafe {
+        exported::celt_compute_allocation_write(
+            state.as_mut_ptr(),
+            state.len(),
+            buf.as_mut_ptr(),
+            buf.len(),
+            c,
+            lm,
+            start,
+            end,
+            trim,
+            total,
+            intensity,
+            dual,
+            previous,
+            bandwidth,
+            offsets.as_ptr(),
+            offsets.len(),
+            caps.as_ptr(),
+            caps.len(),
+            pulses.as_mut_ptr(),
+            pulses.len(),
+            fine.as_mut_ptr(),
+            fine.len(),
+            priorities.as_mut_ptr(),
+            priorities.len(),
+            shown.as_mut_ptr(),
+            shown.len(),
+        )
+    }
+}

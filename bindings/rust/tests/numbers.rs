@@ -1,0 +1,191 @@
+//! Numbers at the borders of the domain and far outside it.
+
+use celt::{Allocation, Frame, Reader, Refusal, Wishes, Writer};
+
+const MAX: u32 = u32::MAX;
+
+#[test]
+fn reads() {
+    let packet = [0x35; 30];
+    let fresh = Reader::new(&packet).unwrap();
+    let mut r = fresh.clone();
+    for logp in [0, 16, 17, 1 << 31, MAX] {
+        assert_eq!(r.bit_logp(logp), Err(Refusal::Number));
+    }
+    for ftb in [0, 9, 32, MAX] {
+        assert_eq!(r.icdf(&[1, 0], ftb), Err(Refusal::Number));
+    }
+    for (table, ftb) in [(&[0u8, 0][..], 1), (&[1, 1], 2), (&[1], 2), (&[2, 0], 1), (&[255, 0, 1], 8)] {
+        assert_eq!(r.icdf(table, ftb), Err(Refusal::Entry));
+    }
+    assert_eq!(r.icdf(&[], MAX), Err(Refusal::Length));
+    for ft in [0, 1] {
+        assert_eq!(r.uint(ft), Err(Refusal::Number));
+    }
+    for n in [0, 26, 32, MAX] {
+        assert_eq!(r.bits(n), Err(Refusal::Number));
+    }
+    for (fs, decay) in [(0, 0), (MAX, MAX), (72 << 7, 0), (128, 64), ((72 << 7) + 1, 127 << 6)] {
+        assert_eq!(r.laplace(fs, decay), Err(Refusal::Number));
+    }
+    let mut y = [3; 176];
+    for (n, k, no) in [
+        (0, 1, Refusal::Number),
+        (1, 1, Refusal::Number),
+        (177, 1, Refusal::Number),
+        (MAX, 1, Refusal::Number),
+        (2, 0, Refusal::Number),
+        (2, 129, Refusal::Number),
+        (2, MAX, Refusal::Number),
+        (6, 96, Refusal::Count),
+        (176, 128, Refusal::Count),
+    ] {
+        assert_eq!(r.pulses(&mut y, n, k), Err(no));
+    }
+    assert_eq!(y, [3; 176]);
+    assert_eq!(r, fresh);
+    assert!(r.uint(MAX).is_ok());
+    assert!(r.bits(25).is_ok());
+}
+
+#[test]
+fn writes() {
+    let mut bytes = [0x35; 30];
+    let mut w = Writer::new(&mut bytes).unwrap();
+    let before = w.state();
+    for (symbol, no) in [(2, Refusal::Number), (MAX, Refusal::Number)] {
+        assert_eq!(w.icdf(symbol, &[1, 0], 1), Err(no));
+    }
+    for (fl, ft) in [(0, 0), (0, 1), (2, 2), (MAX, MAX)] {
+        assert_eq!(w.uint(fl, ft), Err(Refusal::Number));
+    }
+    for (v, n) in [(0, 0), (2, 1), (1 << 25, 25), (0, 26), (MAX, MAX)] {
+        assert_eq!(w.bits(v, n), Err(Refusal::Number));
+    }
+    for value in [-32_769, 32_768, i32::MIN, i32::MAX] {
+        assert_eq!(w.laplace(value, 72 << 7, 127 << 6), Err(Refusal::Number));
+    }
+    let mut y = [0; 176];
+    assert_eq!(w.pulses(&y, 2, 1), Err(Refusal::Sum));
+    y[0] = i32::MIN;
+    y[1] = i32::MIN;
+    assert_eq!(w.pulses(&y, 2, 1), Err(Refusal::Sum));
+    y[..2].copy_from_slice(&[i32::MAX, i32::MAX]);
+    assert_eq!(w.pulses(&y, 2, 128), Err(Refusal::Sum));
+    assert_eq!(w.pulses(&y, 6, 96), Err(Refusal::Count));
+    assert_eq!(w.state(), before);
+    assert_eq!(w.bytes(), [0x35; 30]);
+    assert_eq!(w.uint(MAX - 1, MAX), Ok(()));
+    assert_eq!(w.bits((1 << 25) - 1, 25), Ok(()));
+}
+
+#[test]
+fn allocations() {
+    let good = Frame {
+        channels: 2,
+        lm: 3,
+        start: 0,
+        end: 21,
+        trim: 5,
+        total: 4000,
+        offsets: [0; 21],
+        caps: [3000; 21],
+    };
+    let packet = [0xb1; 60];
+    let fresh = Reader::new(&packet).unwrap();
+    let mut into = Allocation {
+        coded: -1,
+        ..Default::default()
+    };
+    let before = into;
+    let mut numbers = vec![];
+    for far in [i32::MIN, -1, i32::MAX] {
+        numbers.push(Frame { channels: far, ..good });
+        numbers.push(Frame { lm: far, ..good });
+        numbers.push(Frame { start: far, ..good });
+        numbers.push(Frame { end: far, ..good });
+        numbers.push(Frame { trim: far, ..good });
+    }
+    numbers.extend([
+        Frame { channels: 0, ..good },
+        Frame { channels: 3, ..good },
+        Frame { lm: 4, ..good },
+        Frame { start: 21, ..good },
+        Frame { start: 5, end: 5, ..good },
+        Frame { end: 22, ..good },
+        Frame { trim: 11, ..good },
+        Frame { total: 81_601, ..good },
+        Frame { total: i32::MAX, ..good },
+    ]);
+    for frame in &numbers {
+        let mut r = fresh.clone();
+        assert_eq!(r.allocation(frame, &mut into), Err(Refusal::Number), "{frame:?}");
+        assert_eq!((&r, into), (&fresh, before));
+    }
+    for (i, offset, cap) in [(0, -1, 0), (20, 81_601, 0), (20, 0, -1), (0, 0, 32_768), (7, i32::MIN, i32::MAX)] {
+        let mut frame = good;
+        frame.end = 3;
+        frame.offsets[i] = offset;
+        frame.caps[i] = cap;
+        let mut r = fresh.clone();
+        assert_eq!(r.allocation(&frame, &mut into), Err(Refusal::Entry), "{frame:?}");
+        assert_eq!((&r, into), (&fresh, before));
+    }
+    for (intensity, dual, takes) in [
+        (0, 0, true),
+        (21, 1, true),
+        (22, 0, false),
+        (-1, 0, false),
+        (0, 2, false),
+        (0, -1, false),
+        (i32::MAX, 0, false),
+    ] {
+        for (previous, bandwidth) in [(i32::MIN, i32::MAX), (0, 20), (i32::MAX, i32::MIN)] {
+            let mut bytes = [9; 60];
+            let mut w = Writer::new(&mut bytes).unwrap();
+            let wishes = Wishes {
+                intensity,
+                dual,
+                previous,
+                bandwidth,
+            };
+            let answer = w.allocation(&good, &wishes, &mut into.clone());
+            assert_eq!(answer, if takes { Ok(()) } else { Err(Refusal::Number) }, "{wishes:?}");
+            // with one channel they are not looked at
+            let mut w = Writer::new(&mut bytes).unwrap();
+            assert_eq!(w.allocation(&Frame { channels: 1, ..good }, &wishes, &mut into.clone()), Ok(()));
+        }
+    }
+    for total in [i32::MIN, -1, 0, 81_600] {
+        let mut r = fresh.clone();
+        assert_eq!(r.allocation(&Frame { total, ..good }, &mut into.clone()), Ok(()));
+    }
+}
+
+/// Document 01's figures: C, total, then pulses, fine bits, priority and balance of band 0.
+#[test]
+fn figures() {
+    for (channels, total, pulses, fine, priority, balance) in
+        [(1, 71, 8, 7, 0, 7), (1, 100, 8, 8, 0, 28), (1, -5, 0, 0, 1, 0), (2, 7, 7, 0, 1, 0)]
+    {
+        let mut frame = Frame {
+            channels,
+            lm: 0,
+            start: 0,
+            end: 1,
+            trim: 5,
+            total,
+            ..Default::default()
+        };
+        frame.caps[0] = (224 + 64) * channels / 4;
+        let mut into = Allocation::default();
+        Reader::new(&[0; 8]).unwrap().allocation(&frame, &mut into).unwrap();
+        assert_eq!(
+            (into.pulses[0], into.fine[0], into.priorities[0], into.balance),
+            (pulses, fine, priority, balance)
+        );
+    }
+    for (i, pulses) in [(7, 7), (8, 8), (23, 30), (40, 128)] {
+        assert_eq!(celt::get_pulses(i), Ok(pulses));
+    }
+}

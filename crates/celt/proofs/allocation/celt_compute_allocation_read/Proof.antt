@@ -1,0 +1,67 @@
+-- `celt_compute_allocation_read`: the lengths, the call, and what is left of it. Assumes nothing.
+use lib.ListN.{length}
+use Rattle.rate.specs.Question.{lists}
+use Rattle.celt_answer.proofs.Exports.{Both, both, wrong-lengths, right-lengths}
+use Rattle.celt.proofs.Bands.{numbers-back, bands-read}
+use Rattle.celt.proofs.allocation.celt_compute_allocation_read.Statement.{statement}
+use Rattle.celt.proofs.allocation.celt_compute_allocation_read.Tie as tie
+
+lengths : (c : tie.Then1) → let a = c .before .before .args in Both (length (a .state .now)) 12 (length (a .shown .now)) 4
+lengths c = both _ _ _ _ (c .if1 .taken)
+
+load-reader-requires : tie.Need-load-reader-requires
+load-reader-requires c κs = lengths (c .before) .one
+
+clt-compute-allocation-read-requires : tie.Need-clt-compute-allocation-read-requires
+clt-compute-allocation-read-requires c κs = tt
+
+leave-alloc-read-requires : tie.Need-leave-alloc-read-requires
+leave-alloc-read-requires c κs =
+    let l = lengths (c .before .before .before .before .before .before .before .before .before .before .before) in
+    (l .one, l .two)
+
+same-length : tie.Need-same-length
+same-length c = c .before .before .leave-alloc-read .kept .1 .0
+
+same-length-2 : tie.Need-same-length-2
+same-length-2 c = c .before .before .before .before .before .before .before .before .clt-compute-allocation-read .kept .1 .1 .1 .1 .1 .1 .1 .1 .1 .1 .0
+
+same-length-3 : tie.Need-same-length-3
+same-length-3 c = c .before .before .before .before .before .before .before .before .clt-compute-allocation-read .kept .1 .1 .1 .1 .1 .1 .1 .1 .1 .1 .1 .0
+
+same-length-4 : tie.Need-same-length-4
+same-length-4 c = c .before .before .before .before .before .before .before .before .clt-compute-allocation-read .kept .1 .1 .1 .1 .1 .1 .1 .1 .1 .1 .1 .1 .0
+
+same-length-5 : tie.Need-same-length-5
+same-length-5 c = c .before .before .leave-alloc-read .kept .1 .1 .0
+
+returns : tie.Need-returns
+returns c =
+    let g = c .before .before in
+    let k = g .before .before .before .before .before .before in
+    let d = k .before .before .before .before in
+    let t = d .before .before in
+    let p = t .before .before in
+    let a = p .args in
+    let f = p .fits in
+    let e = k .clt-compute-allocation-read .last in
+    right-lengths _ _ (t .if1 .taken)
+    (bands-read {p = lists (e .1 .1 .1 .1 .1 .1 .1 .1 .1 .1 .0) (e .1 .1 .1 .1 .1 .1 .1 .1 .1 .1 .1 .0) (e .1 .1 .1 .1 .1 .1 .1 .1 .1 .1 .1 .1 .0)} (a .state .now, a .shown .now) (a .offsets .now) (a .caps .now) (a .s .now) (lists (a .pulses .now) (a .fine .now) (a .priorities .now)) (numbers-back (f .c) (f .lm) (f .start) (f .end) (f .trim) (f .total)) (d .load-reader .ensures) (k .clt-compute-allocation-read .ensures) (g .leave-alloc-read .ensures))
+
+returns-2 : tie.Need-returns-2
+returns-2 c = wrong-lengths _ _ (c .if1 .left)
+
+pub celt-compute-allocation-read-spec : {M : Type 1} → statement M
+celt-compute-allocation-read-spec =
+    tie.close
+    (tie.spec
+    load-reader-requires
+    clt-compute-allocation-read-requires
+    leave-alloc-read-requires
+    same-length
+    same-length-2
+    same-length-3
+    same-length-4
+    same-length-5
+    returns
+    returns-2)

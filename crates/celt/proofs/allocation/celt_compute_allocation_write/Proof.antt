@@ -1,0 +1,71 @@
+-- `celt_compute_allocation_write`: the lengths, the call, and what is left of it. Assumes nothing.
+use lib.ListN.{length}
+use Rattle.rate.specs.Question.{lists}
+use Rattle.celt_answer.proofs.Exports.{Both, both, wrong-lengths, right-lengths}
+use Rattle.celt.proofs.Bands.{numbers-back, wishes-back, bands-wrote}
+use Rattle.celt.proofs.allocation.celt_compute_allocation_write.Statement.{statement}
+use Rattle.celt.proofs.allocation.celt_compute_allocation_write.Tie as tie
+
+lengths : (c : tie.Then1) → let a = c .before .before .args in Both (length (a .state .now)) 12 (length (a .shown .now)) 4
+lengths c = both _ _ _ _ (c .if1 .taken)
+
+load-writer-requires : tie.Need-load-writer-requires
+load-writer-requires c κs = lengths (c .before) .one
+
+clt-compute-allocation-write-requires : tie.Need-clt-compute-allocation-write-requires
+clt-compute-allocation-write-requires c κs = tt
+
+leave-alloc-write-requires : tie.Need-leave-alloc-write-requires
+leave-alloc-write-requires c κs =
+    let l = lengths (c .before .before .before .before .before .before .before .before .before .before .before .before .before .before) in
+    (l .one, l .two)
+
+same-length : tie.Need-same-length
+same-length c = c .before .before .leave-alloc-write .kept .1 .0
+
+same-length-2 : tie.Need-same-length-2
+same-length-2 c = c .before .before .before .before .before .before .before .before .before .before .clt-compute-allocation-write .kept .1 .0
+
+same-length-3 : tie.Need-same-length-3
+same-length-3 c = c .before .before .before .before .before .before .before .before .before .before .clt-compute-allocation-write .kept .1 .1 .1 .1 .1 .1 .1 .1 .1 .1 .1 .1 .1 .1 .0
+
+same-length-4 : tie.Need-same-length-4
+same-length-4 c = c .before .before .before .before .before .before .before .before .before .before .clt-compute-allocation-write .kept .1 .1 .1 .1 .1 .1 .1 .1 .1 .1 .1 .1 .1 .1 .1 .0
+
+same-length-5 : tie.Need-same-length-5
+same-length-5 c = c .before .before .before .before .before .before .before .before .before .before .clt-compute-allocation-write .kept .1 .1 .1 .1 .1 .1 .1 .1 .1 .1 .1 .1 .1 .1 .1 .1 .0
+
+same-length-6 : tie.Need-same-length-6
+same-length-6 c = c .before .before .leave-alloc-write .kept .1 .1 .0
+
+returns : tie.Need-returns
+returns c =
+    let g = c .before .before in
+    let k = g .before .before .before .before .before .before .before .before in
+    let d = k .before .before .before .before .before in
+    let t = d .before .before in
+    let p = t .before .before in
+    let a = p .args in
+    let f = p .fits in
+    let e = k .clt-compute-allocation-write .last in
+    right-lengths _ _ (t .if1 .taken)
+    (bands-wrote {p = lists (e .1 .1 .1 .1 .1 .1 .1 .1 .1 .1 .1 .1 .1 .1 .0) (e .1 .1 .1 .1 .1 .1 .1 .1 .1 .1 .1 .1 .1 .1 .1 .0) (e .1 .1 .1 .1 .1 .1 .1 .1 .1 .1 .1 .1 .1 .1 .1 .1 .0)} {b′ = e .1 .0} (a .state .now, a .shown .now) (a .offsets .now) (a .caps .now) (a .buf .now) (lists (a .pulses .now) (a .fine .now) (a .priorities .now)) (numbers-back (f .c) (f .lm) (f .start) (f .end) (f .trim) (f .total)) (wishes-back (f .intensity) (f .dual) (f .previous) (f .bandwidth)) (d .load-writer .ensures) (k .clt-compute-allocation-write .ensures) (g .leave-alloc-write .ensures))
+
+returns-2 : tie.Need-returns-2
+returns-2 c = wrong-lengths _ _ (c .if1 .left)
+
+pub celt-compute-allocation-write-spec : {M : Type 1} → statement M
+celt-compute-allocation-write-spec =
+    tie.close
+    (tie.spec
+    load-writer-requires
+    clt-compute-allocation-write-requires
+    leave-alloc-write-requires
+    same-length
+    same-length-2
+    same-length-3
+    same-length-4
+    same-length-5
+    same-length-6
+    returns
+    returns-2)

@@ -1,0 +1,26 @@
+-- `celt_enc_new`: the lengths, the call, and what is left of it. Assumes nothing.
+use borrow.Author.Tests.{eq-eqb, ne-eqb}
+use Rattle.celt_answer.proofs.Exports.{wrong-lengths, right-lengths}
+use Rattle.celt.proofs.enc.celt_enc_new.Statement.{statement}
+use Rattle.celt.proofs.enc.celt_enc_new.Tie as tie
+
+new-requires : tie.Need-new-requires
+new-requires c κs = tt
+
+leave-write-requires : tie.Need-leave-write-requires
+leave-write-requires c κs = c .before .before .if1 .taken
+
+same-length : tie.Need-same-length
+same-length c = c .before .leave-write .kept .1 .0
+
+returns : tie.Need-returns
+returns c =
+    right-lengths _ _ (eq-eqb _ _ (c .before .before .before .before .if1 .taken))
+    (rw (c .before .before .before .new .ensures) at (c .before .leave-write .ensures))
+
+returns-2 : tie.Need-returns-2
+returns-2 c = wrong-lengths _ _ (ne-eqb _ _ (c .if1 .left))
+
+pub celt-enc-new-spec : {M : Type 1} → statement M
+celt-enc-new-spec =
+    tie.close (tie.spec new-requires leave-write-requires same-length returns returns-2)

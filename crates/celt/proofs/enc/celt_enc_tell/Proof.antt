@@ -1,0 +1,33 @@
+-- `celt_enc_tell`: the lengths, the call, and what is left of it. Assumes nothing.
+use lib.ListN.{length}
+use Rattle.celt_answer.proofs.Exports.{Both, both, wrong-lengths, right-lengths}
+use Rattle.celt.proofs.enc.celt_enc_tell.Statement.{statement}
+use Rattle.celt.proofs.enc.celt_enc_tell.Tie as tie
+
+lengths : (c : tie.Then1) → let a = c .before .before .args in Both (length (a .state .now)) 12 (length (a .value .now)) 1
+lengths c = both _ _ _ _ (c .if1 .taken)
+
+load-writer-requires : tie.Need-load-writer-requires
+load-writer-requires c κs = lengths c .one
+
+tell-requires : tie.Need-tell-requires
+tell-requires c κs = tt
+
+leave-told-requires : tie.Need-leave-told-requires
+leave-told-requires c κs = lengths (c .before .before .before) .two
+
+same-length : tie.Need-same-length
+same-length c = c .before .before .leave-told .kept .1 .0
+
+returns : tie.Need-returns
+returns c =
+    right-lengths _ _ (c .before .before .before .before .before .before .if1 .taken)
+    (rw (c .before .before .before .before .tell .ensures, c .before .before .before .before .before .load-writer .ensures) at (c .before .before .leave-told .ensures))
+
+returns-2 : tie.Need-returns-2
+returns-2 c = wrong-lengths _ _ (c .if1 .left)
+
+pub celt-enc-tell-spec : {M : Type 1} → statement M
+celt-enc-tell-spec =
+    tie.close
+    (tie.spec load-writer-requires tell-requires leave-told-requires same-length returns returns-2)

@@ -1,0 +1,51 @@
+-- `celt_laplace_encode`: the lengths, the call, and what is left of it. Assumes nothing.
+use mir.Facts.{toZ-ofZ}
+use lib.ListN.{length}
+use Rattle.celt.proofs.Joined.{wrote-value}
+use Rattle.celt_answer.proofs.Exports.{Both, both, wrong-lengths, right-lengths}
+use Rattle.celt.proofs.lap.celt_laplace_encode.Statement.{statement}
+use Rattle.celt.proofs.lap.celt_laplace_encode.Tie as tie
+
+lengths : (c : tie.Then1) → let a = c .before .before .args in Both (length (a .state .now)) 12 (length (a .value .now)) 1
+lengths c = both _ _ _ _ (c .if1 .taken)
+
+load-writer-requires : tie.Need-load-writer-requires
+load-writer-requires c κs = lengths (c .before) .one
+
+ec-laplace-encode-requires : tie.Need-ec-laplace-encode-requires
+ec-laplace-encode-requires c κs = tt
+
+leave-done-requires : tie.Need-leave-done-requires
+leave-done-requires c κs =
+    let l = lengths (c .before .before .before .before .before .before .before .before) in
+    (l .one, l .two)
+
+same-length : tie.Need-same-length
+same-length c = c .before .before .leave-done .kept .1 .0
+
+same-length-2 : tie.Need-same-length-2
+same-length-2 c = c .before .before .before .before .before .before .before .ec-laplace-encode .kept .1 .0
+
+same-length-3 : tie.Need-same-length-3
+same-length-3 c = c .before .before .leave-done .kept .1 .1 .0
+
+returns : tie.Need-returns
+returns c =
+    right-lengths _ _ (c .before .before .before .before .before .before .before .before .before .before .before .if1 .taken)
+    (wrote-value (c .before .before .before .before .before .before .before .before .before .before .before .before .before .args .state .now, c .before .before .before .before .before .before .before .before .before .before .before .before .before .args .value .now) _ _ _ _ (rw (toZ-ofZ (c .before .before .before .before .before .before .before .before .before .before .before .before .before .fits .z), c .before .before .before .before .before .before .before .before .before .load-writer .ensures) at (c .before .before .before .before .before .before .before .ec-laplace-encode .ensures)) (c .before .before .leave-done .ensures))
+
+returns-2 : tie.Need-returns-2
+returns-2 c = wrong-lengths _ _ (c .if1 .left)
+
+pub celt-laplace-encode-spec : {M : Type 1} → statement M
+celt-laplace-encode-spec =
+    tie.close
+    (tie.spec
+    load-writer-requires
+    ec-laplace-encode-requires
+    leave-done-requires
+    same-length
+    same-length-2
+    same-length-3
+    returns
+    returns-2)

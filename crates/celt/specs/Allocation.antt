@@ -1,0 +1,22 @@
+-- The bit allocation, exported: rate's calls, over lists.
+use Prim.Native.Nat.{ℕ}
+use mathlib.Core.Bool.{_&&_}
+use mathlib.Core.List.{List}
+use lib.IntN.{ℤ}
+use Rattle.entenc.specs.Write.{wr}
+use Rattle.rate.specs.Answer.{reading, writing}
+use Rattle.rate.specs.Question.{Lists, Wishes}
+use Rattle.rate.specs.declared.Numbers.{Numbers}
+use Rattle.celt_answer.specs.Left.{Left, exported}
+use Rattle.celt_state.specs.State.{readerOf, writerOf, isState, isLong}
+use Rattle.celt_answer.specs.Allocation.{four, saidAllRead, saidAllWrote}
+
+-- an allocation read from the packet s; v is where the four numbers go
+abbrev pub reads : Numbers → List ℤ → List ℤ → List ℕ → List ℤ → List ℤ → Lists → Left ((List ℤ × List ℤ) × Lists)
+reads q offsets caps s l v bands =
+    exported (isState l && isLong 4 v) (saidAllRead (reading q offsets caps s (readerOf l) bands)) ((l, v), bands)
+
+-- an allocation written
+abbrev pub writes : Numbers → Wishes → List ℤ → List ℤ → List ℤ → List ℤ → Lists → List ℕ → Left ((List ℤ × List ℤ) × (Lists × List ℕ))
+writes q h offsets caps l v bands b =
+    exported (isState l && isLong 4 v) (saidAllWrote (writing q h offsets caps (wr (writerOf l) b) bands)) ((l, v), (bands, b))

@@ -1,0 +1,49 @@
+// Laplace values: the calls of laplace.
+use celt_answer::lap::leave_done;
+use celt_answer::lap::leave_value;
+use celt_state::load::load_reader;
+use celt_state::load::load_writer;
+ghost use mathlib.Core.Path.{_≡_};
+ghost use Rattle.celt_answer.specs.Left.{left};
+ghost use Rattle.celt.specs.Lap.{decodes, encodes};
+
+// A Laplace value of the pair fs and decay.
+#[no_mangle]
+pub extern "C" fn celt_laplace_decode(
+    state: &mut [i64],
+    s: &[u8],
+    fs: u32,
+    decay: u32,
+    value: &mut [i32],
+) -> u32
+    ensures { λ r.
+        ⌜ left r (now (state .exit), now (value .exit)) ≡ decodes fs decay (now (s .entry)) (now (state .entry)) (now (value .entry)) ⌝ }
+{
+    if (state.len() == 12) & (value.len() == 1) {
+        let d = load_reader(state);
+        let a = laplace::ec_laplace_decode(d, s, fs, decay);
+        return leave_value(a, state, value);
+    }
+    2
+}
+
+// The Laplace value z of the pair fs and decay; what counts as written goes into value.
+#[no_mangle]
+pub extern "C" fn celt_laplace_encode(
+    state: &mut [i64],
+    buf: &mut [u8],
+    z: i32,
+    fs: u32,
+    decay: u32,
+    value: &mut [i32],
+) -> u32
+    ensures { λ r.
+        ⌜ left r ((now (state .exit), now (value .exit)), now (buf .exit)) ≡ encodes fs decay z (now (state .entry)) (now (value .entry)) (now (buf .entry)) ⌝ }
+{
+    if (state.len() == 12) & (value.len() == 1) {
+        let w = load_writer(state);
+        let a = laplace::ec_laplace_encode(w, buf, z, fs, decay);
+        return leave_done(a, state, value);
+    }
+    2
+}

@@ -1,0 +1,8 @@
+-- What an answer leaves in the lists that a call was lent: one shape for all, and what each kind of answer says.
+pub mod Left
+pub mod Dec
+pub mod Enc
+pub mod Lap
+pub mod Pulses
+pub mod Lookups
+pub mod Allocation

@@ -1,0 +1,7 @@
+// An answer into the lists that a call was lent, family by family. A refusal leaves every list as it was.
+pub mod allocation;
+pub mod dec;
+pub mod enc;
+pub mod lap;
+pub mod lookups;
+pub mod pulses;

@@ -1,0 +1,2 @@
+-- A coder's state as a list of twelve numbers.
+pub mod State
