@@ -10,12 +10,12 @@ use Rattle.entdec.specs.declared.Read.{Read}
 use Rattle.entdec.specs.Symbols.{readSym}
 use Rattle.entenc.specs.Write.{Wr}
 use Rattle.entenc.specs.Symbols.{writeSym}
-use Rattle.cwrs.specs.Count.{Vn, count32}
+use Rattle.cwrs_counts.specs.Count.{Vn, count32}
 use Rattle.cwrs.specs.Word.{energy, index, word}
 use Rattle.cwrs.specs.declared.Found.{Found}
 use Rattle.cwrs.specs.declared.Decoded.the-variants.{Got, Refused}
 use Rattle.cwrs.specs.Answer.{readWord, writeWord, foundOf, placed, answer, numberOf}
-use Rattle.cwrs.proofs.Recurrence.{count-is}
+use Rattle.cwrs_counts.proofs.Recurrence.{count-is}
 use Rattle.cwrs.proofs.Back.{word-first}
 
 pub answer-got : (m : ℕ) (f : Found) (v y : List ℤ) → m ≡ 0 → placed (Got f) v ≡ answer m f v y

@@ -1,22 +1,22 @@
 -- Laws of the way back from a number to its vector. Assumes nothing.
 use Prim.Native.Nat.{ℕ, zero, suc, _+_, _-_, _≤_, _<_}
 use mathlib.Core.Path.{_≡_, refl, sym, ap, _∙_}
-use mathlib.Core.Bool.{Bool, cond}
+use mathlib.Core.Bool.{Bool, true, false, cond, _&&_, false≢true}
 use mathlib.Core.List.{List, [], _∷_, _++_, append-assoc, append-nil}
 use native.Mathlib.Nat.{le-refl, le-trans, not-suc-le-zero}
 use native.Mathlib.Numerals.{add-one}
 use native.Mathlib.Omega.{arith}
-use lib.Dec.{leb}
-use lib.IntN.{ℤ, natAbs}
-use lib.ListN.{length, take, drop, set, take-append-drop}
+use lib.Dec.{leb, ltb}
+use lib.IntN.{ℤ, pos, natAbs}
+use lib.ListN.{length, take, drop, set, replicate, take-append-drop}
 use lib.Seq.{take-suc-set, take-at}
-use borrow.Author.Tests.{le-leb, lt-leb, leb-true, leb-false}
+use borrow.Author.Tests.{le-leb, lt-leb, leb-true, leb-false, lt-ltb}
 use Rattle.laws.specs.Signs.{valueOf}
-use Rattle.laws.proofs.Tests.{split-on, cond-le}
+use Rattle.laws.proofs.Tests.{split-on, cond-le, by-le}
 use Rattle.laws.proofs.Signs.{size-value}
-use Rattle.cwrs.specs.Count.{U}
+use Rattle.cwrs_counts.specs.Count.{U}
 use Rattle.cwrs.specs.Word.{pulses, headNeg, signIndex, reach, tailPulses, headPulse, tailIndex, word}
-use Rattle.cwrs.proofs.Recurrence.{U-s0}
+use Rattle.cwrs_counts.proofs.Recurrence.{U-s0}
 use Rattle.cwrs.proofs.Words.{pulses-nil, pulses-cons}
 
 -- ---- the greatest j up to k with U n j at most i
@@ -112,6 +112,18 @@ word-pulses-le (suc n) k i =
 pub first-pulses-le : (n k i m : ℕ) (l : List ℤ) {y : List ℤ} → y ≡ word n k i ++ l → k ≤ m → pulses (take n y) ≤ m
 first-pulses-le n k i m l e h = rw (e, word-first) (le-trans (word-pulses-le n k i) h)
 
+-- no pulses: zeros, whatever the number
+value-zero : (b : Bool) → valueOf b 0 ≡ pos 0
+value-zero true = refl
+value-zero false = refl
+
+pub word-none : (n i : ℕ) → word n 0 i ≡ replicate n (pos 0)
+unfolding headPulse
+word-none zero i = word-zero 0 i
+word-none (suc n) i =
+    let t : tailPulses (suc n) 0 i ≡ 0 = omega (arith, tailPulses-le (suc n) 0 i) in
+    word-suc n 0 i ∙ rw (t, value-zero) (ap (λ (l : List ℤ). pos 0 ∷ l) (word-none n (tailIndex (suc n) 0 i)))
+
 -- ---- a turn of the decoder's loop: y is written up to j, and what is left to write are n - j places with k pulses and the number i
 
 pub written : (y W : List ℤ) (j n k i : ℕ) (v : ℤ) (k′ i′ : ℕ) → j < n → j < length y → v ≡ headPulse (n - j) k i → k′ ≡ tailPulses (n - j) k i
@@ -121,8 +133,23 @@ written y W j n k i v k′ i′ h l ev ek ei w =
     let s : word (n - j) k i ≡ v ∷ word (n - (j + 1)) k′ i′ = rw (ev, ek, ei, e) (word-suc (n - (j + 1)) k i) in
     rw (add-one, take-suc-set y j v l, append-assoc, ← add-one) (ap (λ (t : List ℤ). take j y ++ t) (sym s) ∙ w)
 
-pub done : (y y₀ W : List ℤ) (j n k i : ℕ) → j ≡ n → take j y ++ word (n - j) k i ≡ W → drop j y ≡ drop j y₀ → y ≡ W ++ drop n y₀
-done y y₀ W j n k i e w d =
-    let z : n - j ≡ 0 = omega arith in
-    let f : take j y ≡ W = sym (append-nil (take j y)) ∙ rw (z, word-zero) at w in
-    sym (take-append-drop j y) ∙ rw (f, d, e)
+-- what the loop leaves is silent: there is no place or no pulse
+pub silent : (j n k i : ℕ) → (ltb j n && ltb 0 k) ≡ false → word (n - j) k i ≡ replicate (n - j) (pos 0)
+silent j n zero i t = word-none (n - j) i
+silent j n (suc k) i t =
+    by-le n j (λ h. let z : n - j ≡ 0 = omega arith in rw (z, word-zero))
+    (λ h. absurd (false≢true (sym t ∙ rw (lt-ltb j n h, lt-ltb 0 (suc k) (omega arith)))))
+
+-- ---- a turn of the loop that writes zeros, and its end: y is written up to i
+
+pub zero-written : (y W : List ℤ) (i n : ℕ) → i < n → i < length y → take i y ++ replicate (n - i) (pos 0) ≡ W
+    → take (i + 1) (set y i (pos 0)) ++ replicate (n - (i + 1)) (pos 0) ≡ W
+zero-written y W i n h l w =
+    let e : suc (n - (i + 1)) ≡ n - i = omega arith in
+    rw (add-one, take-suc-set y i (pos 0) l, append-assoc, ← add-one) (ap (λ (m : ℕ). take i y ++ replicate m (pos 0)) e ∙ w)
+
+pub zeros-done : (y y₀ W : List ℤ) (i n : ℕ) → i ≡ n → take i y ++ replicate (n - i) (pos 0) ≡ W → drop n y ≡ drop n y₀ → y ≡ W ++ drop n y₀
+zeros-done y y₀ W i n e w d =
+    let z : n - i ≡ 0 = omega arith in
+    let f : take i y ≡ W = sym (append-nil (take i y)) ∙ rw z at w in
+    sym (take-append-drop n y) ∙ rw (d, ← f, e)

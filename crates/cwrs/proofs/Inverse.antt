@@ -12,9 +12,9 @@ use borrow.Author.Tests.{le-leb, lt-leb, le-ltb}
 use Rattle.laws.specs.Signs.{isNeg, valueOf}
 use Rattle.laws.proofs.Tests.{by-le}
 use Rattle.laws.proofs.Signs.{size-value, sign-value}
-use Rattle.cwrs.specs.Count.{U, Vn}
+use Rattle.cwrs_counts.specs.Count.{U, Vn}
 use Rattle.cwrs.specs.Word.{pulses, index, reach, word}
-use Rattle.cwrs.proofs.Recurrence.{U-00, U-0s, U-ss, V-is, up1, up-le}
+use Rattle.cwrs_counts.proofs.Recurrence.{U-00, U-0s, U-ss, V-is, up1, up-le}
 use Rattle.cwrs.proofs.Words.{pulses-nil, pulses-cons, index-nil, index-cons, index-pos, index-neg, index-lt}
 use Rattle.cwrs.proofs.Back.{reach-le, reach-ok, reach-next, reach-stop, reach-down, First, first, word-zero, word-suc}
 

@@ -1,5 +1,3 @@
-pub mod Recurrence
-pub mod Table
 pub mod Words
 pub mod Back
 pub mod Inverse

@@ -15,7 +15,7 @@ use Rattle.entdec.specs.Rule.{readerOk, readRefusal}
 use Rattle.entcode.proofs.Refusals.{passed}
 use Rattle.entenc.specs.declared.Writer.{Writer}
 use Rattle.entenc.specs.Rule.{writerOk, isLive, writeRefusal}
-use Rattle.cwrs.specs.Count.{Vn}
+use Rattle.cwrs_counts.specs.Count.{Vn}
 use Rattle.cwrs.specs.Word.{pulses}
 use Rattle.cwrs.specs.Answer.{inDomain, ownRead, ownWrite}
 

@@ -10,9 +10,9 @@ use lib.ListN.{length, getD, take, drop}
 use lib.Seq.{slice, slice-cons, slice-empty, length-slice, length-take-le}
 use borrow.Author.Tests.{le-ltb}
 use Rattle.laws.specs.Signs.{isNeg}
-use Rattle.cwrs.specs.Count.{U, Vn}
+use Rattle.cwrs_counts.specs.Count.{U, Vn}
 use Rattle.cwrs.specs.Word.{pulses, index, energy}
-use Rattle.cwrs.proofs.Recurrence.{U-00, U-ss, V-is, up-le}
+use Rattle.cwrs_counts.proofs.Recurrence.{U-00, U-ss, V-is, up-le}
 
 -- ---- one place before the others
 

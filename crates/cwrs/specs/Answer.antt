@@ -14,7 +14,7 @@ use Rattle.entenc.specs.Write.{Wr}
 use Rattle.entenc.specs.Rule.{writeRefusal}
 use Rattle.entenc.specs.Symbols.{writeSym}
 use Rattle.entenc.specs.Answer as wrote
-use Rattle.cwrs.specs.Count.{Vn}
+use Rattle.cwrs_counts.specs.Count.{Vn}
 use Rattle.cwrs.specs.Word.{pulses, energy, index, word}
 use Rattle.cwrs.specs.declared.Found.{Found}
 use Rattle.cwrs.specs.declared.Decoded.{Decoded}

@@ -8,7 +8,7 @@ use lib.IntN.{ℤ, natAbs}
 use lib.ListN.{length}
 use lib.Dec.{leb}
 use Rattle.laws.specs.Signs.{isNeg, valueOf}
-use Rattle.cwrs.specs.Count.{U}
+use Rattle.cwrs_counts.specs.Count.{U}
 
 -- how many pulses a vector has
 unfoldable pub pulses : List ℤ → ℕ

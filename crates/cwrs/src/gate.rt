@@ -6,6 +6,7 @@ ghost use Rattle.entdec.specs.Rule.{readRefusal};
 ghost use Rattle.entenc.specs.Rule.{writeRefusal};
 ghost use Rattle.cwrs.specs.Answer.{inDomain, isRoom, ownRead, ownWrite};
 use super::work;
+use cwrs_counts::pvq_v;
 use entdec::Reader;
 use entenc::Writer;
 
@@ -21,7 +22,7 @@ fn own_read(n: u32, k: u32) -> u32
     ensures { λ r. ⌜ r ≡ cond (inDomain n k) (ownRead n k) 0 ⌝ }
 {
     if in_domain(n, k) {
-        if work::pvq_v(n as usize, k as usize) == 0 {
+        if pvq_v(n as usize, k as usize) == 0 {
             7
         } else {
             0
@@ -44,7 +45,7 @@ fn own_write(y: &[i32], n: u32, k: u32) -> u32
     ensures { λ r. ⌜ r ≡ cond (isRoom (now (y .entry)) && inDomain n k) (ownWrite (now (y .entry)) n k) 0 ⌝ }
 {
     if (y.len() == 176) & in_domain(n, k) {
-        if work::pvq_v(n as usize, k as usize) == 0 {
+        if pvq_v(n as usize, k as usize) == 0 {
             return 7;
         }
         if work::total(y, n as usize) == k as usize {

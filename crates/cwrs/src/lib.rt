@@ -7,7 +7,6 @@ use entdec::Reader;
 use entenc::Answer;
 use entenc::Writer;
 
-mod counts;
 pub mod gate;
 pub mod work;
 

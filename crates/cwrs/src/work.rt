@@ -1,9 +1,9 @@
-// Counts of pulse vectors, a vector's number and back, over the first n places of a lent vector. They test nothing; the public calls do.
+// A vector's number and back, over the first n places of a lent vector. They test nothing; the public calls do.
 ghost use mathlib.Core.Path.{_≡_};
 ghost use mathlib.Core.Bool.{cond};
 ghost use mathlib.Core.List.{_++_};
 ghost use Prim.Native.Nat.{_+_, _-_, _<_, _≤_, _^_};
-ghost use lib.Dec.{ltb, leb};
+ghost use lib.Dec.{leb};
 ghost use lib.IntN.{pos};
 ghost use lib.ListN.{length, take, drop, replicate};
 ghost use Rattle.entdec.specs.Ready as reader;
@@ -11,50 +11,13 @@ ghost use Rattle.entenc.specs.Ready as writer;
 ghost use Rattle.entenc.specs.Write.{wr};
 ghost use Rattle.cwrs.specs.Word;
 ghost use Rattle.cwrs.specs.Word.{pulses, index, headPulse, tailPulses, tailIndex, word};
-ghost use Rattle.cwrs.specs.Count.{U, Vn, count32};
+ghost use Rattle.cwrs_counts.specs.Count.{U, Vn};
 ghost use Rattle.cwrs.specs.Answer.{foundOf, readWord, writeWord};
 use super::Found;
-use super::counts;
+use cwrs_counts::pvq_u;
+use cwrs_counts::pvq_v;
 use entdec::Reader;
 use entenc::Writer;
-
-// U(n, k), where 32 bits hold it.
-pub fn pvq_u(n: usize, k: usize) -> u32
-    requires { ⌜ (n ≤ 176) × (k ≤ 176) × (U n k < 2 ^ 32) ⌝ }
-    ensures { λ r. ⌜ r ≡ U n k ⌝ }
-{
-    if n <= k {
-        counts::entry(n, k)
-    } else {
-        counts::entry(k, n)
-    }
-}
-
-// Do 32 bits hold U(n, k)?
-fn fits(n: usize, k: usize) -> bool
-    requires { ⌜ (n ≤ 176) × (k ≤ 176) ⌝ }
-    ensures { λ r. ⌜ r ≡ ltb (U n k) 4294967296 ⌝ }
-{
-    if n <= k {
-        counts::held(n, k)
-    } else {
-        counts::held(k, n)
-    }
-}
-
-// V(n, k), the number of vectors of n places and k pulses, or 0 where it is 2^32 or more.
-pub fn pvq_v(n: usize, k: usize) -> u32
-    requires { ⌜ (1 ≤ n) × (n ≤ 176) × (k ≤ 175) ⌝ }
-    ensures { λ r. ⌜ r ≡ count32 n k ⌝ }
-{
-    if fits(n, k + 1) {
-        let a = pvq_u(n, k);
-        let b = pvq_u(n, k + 1);
-        if a <= 0xffff_ffff - b { a + b } else { 0 }
-    } else {
-        0
-    }
-}
 
 // How many pulses the first n places have, whatever stands there.
 pub fn total(y: &[i32], n: usize) -> usize
@@ -92,18 +55,31 @@ pub fn icwrs(y: &[i32], n: usize) -> u32
     i
 }
 
-// The greatest j up to k with U(n, j) at most i.
-fn reach(n: usize, k: usize, i: u32) -> usize
-    requires { ⌜ (1 ≤ n) × (n ≤ 176) × (k ≤ 176) × (U n k < 2 ^ 32) ⌝ }
-    ensures { λ r. ⌜ (r ≡ Word.reach n k i) × (r ≤ k) × (U n r ≤ i) ⌝ }
+// How many pulses are left, and the counts there: U(n, left) and U(n, left + 1).
+pub struct Reached {
+    pub left: usize,
+    pub here: u32,
+    pub above: u32,
+}
+
+// The greatest j up to k with U(n, j) at most i; here and above are the counts at k and at k + 1.
+fn reach(n: usize, k: usize, i: u32, here: u32, above: u32) -> Reached
+    requires { ⌜ (1 ≤ n) × (n ≤ 176) × (k ≤ 176) × (here ≡ U n k) × (above ≡ U n (k + 1)) ⌝ }
+    ensures { λ r. ⌜ (r .left ≡ Word.reach n k i) × (r .left ≤ k) × (r .here ≡ U n (r .left)) × (r .above ≡ U n (r .left + 1)) × (r .here ≤ i) ⌝ }
 {
-    let mut j = k;
-    let mut p = pvq_u(n, k);
+    let mut left = k;
+    let mut p = here;
+    let mut q = above;
     while i < p {
-        j -= 1;
-        p = pvq_u(n, j);
+        left -= 1;
+        q = p;
+        p = pvq_u(n, left);
     }
-    j
+    Reached {
+        left,
+        here: p,
+        above: q,
+    }
 }
 
 // Where p vectors stand before those with a negative first place: the number i among those of its sign.
@@ -113,55 +89,62 @@ fn among(p: u32, i: u32) -> u32
     if p <= i { i - p } else { i }
 }
 
-// One place of a vector, and after it how many pulses and which number.
+// One place of a vector, and after it how many pulses, which number, and of how many vectors.
 pub struct Spot {
     pub value: i32,
     pub left: usize,
     pub index: u32,
+    pub count: u32,
 }
 
-// The first of n places with k pulses and the number i.
-fn first_spot(n: usize, k: usize, i: u32) -> Spot
-    requires { ⌜ (1 ≤ n) × (n ≤ 176) × (k ≤ 128) × (U n (k + 1) < 2 ^ 32) ⌝ }
-    ensures { λ r. ⌜ (r .value ≡ headPulse n k i) × (r .left ≡ tailPulses n k i) × (r .index ≡ tailIndex n k i) ⌝ }
+// The first of n places with k pulses and the number i, of v vectors.
+fn first_spot(n: usize, k: usize, i: u32, v: u32) -> Spot
+    requires { ⌜ (1 ≤ n) × (n ≤ 176) × (k ≤ 128) × (v ≡ Vn n k) ⌝ }
+    ensures { λ r. ⌜ (r .value ≡ headPulse n k i) × (r .left ≡ tailPulses n k i) × (r .index ≡ tailIndex n k i) × (r .count ≡ Vn (n - 1) (r .left)) ⌝ }
 {
-    let p = pvq_u(n, k + 1);
+    let u = pvq_u(n, k);
+    let p = v - u;
     let q = among(p, i);
-    let j = reach(n, k, q);
-    let u = pvq_u(n, j);
+    let r = reach(n, k, q, u, p);
     Spot {
-        value: laws::value_of(p <= i, (k - j) as u32),
-        left: j,
-        index: q - u,
+        value: laws::value_of(p <= i, (k - r.left) as u32),
+        left: r.left,
+        index: q - r.here,
+        count: r.above - r.here,
     }
 }
 
-// The vector of n places and k pulses with the number i, into the first n places, section 4.3.4.2.
-pub fn cwrsi(y: &mut [i32], n: usize, k: usize, i: u32)
-    requires { ⌜ (n ≤ length (now y)) × (n ≤ 176) × (k ≤ 128) × (U n (k + 1) < 2 ^ 32) ⌝ }
+// Zeros into the places from j up to n.
+fn silence(y: &mut [i32], j: usize, n: usize)
+    requires { ⌜ (j ≤ n) × (n ≤ length (now y)) × (n ≤ 176) ⌝ }
+    ensures { λ _. ⌜ now (y .exit) ≡ (take j (now (y .entry)) ++ replicate (n - j) (pos 0)) ++ drop n (now (y .entry)) ⌝ }
+{
+    let mut i = j;
+    while i < n {
+        y[i] = 0;
+        i += 1;
+    }
+}
+
+// The vector of n places and k pulses with the number i, of v vectors, into the first n places, section 4.3.4.2.
+pub fn cwrsi(y: &mut [i32], n: usize, k: usize, i: u32, v: u32)
+    requires { ⌜ (n ≤ length (now y)) × (n ≤ 176) × (k ≤ 128) × (v ≡ Vn n k) ⌝ }
     ensures { λ _. ⌜ now (y .exit) ≡ word n k i ++ drop n (now (y .entry)) ⌝ }
 {
     let mut left = k;
     let mut at = i;
+    let mut count = v;
     let mut j: usize = 0;
-    while j < n {
-        let p = first_spot(n - j, left, at);
-        let v = p.value;
-        y[j] = v;
+    while (j < n) & (0 < left) {
+        let p = first_spot(n - j, left, at, count);
+        let x = p.value;
+        y[j] = x;
         left = p.left;
         at = p.index;
+        count = p.count;
         j += 1;
     }
-}
-
-// The same in room of its own, all zero before.
-pub fn vector(n: usize, k: usize, i: u32) -> [i32; 176]
-    requires { ⌜ (n ≤ 176) × (k ≤ 128) × (U n (k + 1) < 2 ^ 32) ⌝ }
-    ensures { λ r. ⌜ r ≡ word n k i ++ replicate (176 - n) (pos 0) ⌝ }
-{
-    let mut y = [0i32; 176];
-    cwrsi(&mut y, n, k, i);
-    y
+    silence(y, j, n);
 }
 
 // The sum of the squares of the first n places.
@@ -186,9 +169,10 @@ pub fn decode(d: Reader, s: &[u8], y: &mut [i32], n: usize, k: usize) -> Found
     requires { ⌜ (2 ≤ n) × (n ≤ 176) × (n ≤ length (now y)) × (1 ≤ k) × (k ≤ 128) × (Vn n k < 2 ^ 32) ⌝ }
     ensures { λ r. ⌜ (r ≡ foundOf n k (now (s .entry)) d) × (now (y .exit) ≡ readWord n k (now (s .entry)) d ++ drop n (now (y .entry))) ⌝ }
 {
-    let i = d.uniform(s, pvq_v(n, k));
+    let v = pvq_v(n, k);
+    let i = d.uniform(s, v);
     let next = i.next;
-    cwrsi(y, n, k, i.value);
+    cwrsi(y, n, k, i.value, v);
     Found {
         energy: energy(y, n),
         next,

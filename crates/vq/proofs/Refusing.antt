@@ -14,7 +14,7 @@ use Rattle.laws.proofs.Tests.{by-le}
 use Rattle.laws.proofs.Signs.{CountIn, range-count}
 use Rattle.entdec.specs.declared.Reader.{Reader}
 use Rattle.entdec.specs.Rule.{readerOk, readRefusal}
-use Rattle.cwrs.specs.Count.{Vn}
+use Rattle.cwrs_counts.specs.Count.{Vn}
 use Rattle.cwrs.proofs.Refusing.{late}
 use Rattle.vq.specs.declared.ReadShape.{ReadShape}
 use Rattle.vq.specs.declared.Shaped.the-variants.{Got, Refused}

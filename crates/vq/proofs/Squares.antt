@@ -1,35 +1,21 @@
 -- Whole numbers: scaling by fours, the whole part of a square root, and the whole number nearest to it. Assumes nothing.
-use Prim.Native.Nat.{ℕ, zero, suc, _+_, _-_, _*_, _/_, _^_, _<_, _≤_}
-use mathlib.Core.Path.{_≡_, refl, sym, ap, _∙_}
+use Prim.Native.Nat.{ℕ, zero, suc, _+_, _-_, _*_, _/_, _%_, _^_, _<_, _≤_}
+use mathlib.Core.Path.{_≡_, refl, sym, ap, _∙_, subst}
 use mathlib.Core.Bool.{cond}
-use native.Mathlib.Nat.{one-mul, mul-le-mul, mul-le-mul-right, mul-lt-mul-of-pos-right, pow-le-pow-right, pow-suc, pow-succ', div-lt-iff-lt-mul}
+use native.Mathlib.Nat.{mul-le-mul, mul-le-mul-right, mul-lt-mul-of-pos-right, pow-suc, pow-succ', div-lt-iff-lt-mul}
 use native.Mathlib.Omega.{arith}
 use lib.Dec.{leb, lit<}
-use lib.Pow.{pow-pos, pow-add, pow-mono}
+use lib.Pow.{pow-pos, pow-add, pow-mono, shl-exact}
 use lib.Ieee.{size}
 use lib.Ieee.Digits.{size-lt, size-reaches, size-le}
 use borrow.Author.Tests.{leb-true, leb-false}
 use Rattle.laws.proofs.Tests.{split-on, by-le}
-use Rattle.laws.proofs.Powers.{mul-pow-next}
 use Rattle.vq.specs.Root.{sq, wholeRoot, closer, scaleOf, Scaling, Floor, Near}
 
 pub sq-le : {a b : ℕ} → a ≤ b → a * a ≤ b * b
 sq-le h = mul-le-mul h h
 
 -- ---- scaling by fours
-
-pub four-next : (n v j : ℕ) → v ≡ n * 4 ^ j → v * 4 ≡ n * 4 ^ (j + 1)
-four-next n v j h = ap (λ (x : ℕ). x * 4) h ∙ sym (mul-pow-next 4 n j)
-
--- 4^j is at most v, so j is below 23 while v is below 4^23
-pub few : (n v j : ℕ) → 0 < n → v ≡ n * 4 ^ j → v < 70368744177664 → j < 23
-few n v j p h l =
-    by-le 23 j
-    (λ g.
-    let a : 4 ^ 23 ≤ 4 ^ j = pow-le-pow-right (omega arith) g in
-    let b : 1 * 4 ^ j ≤ n * 4 ^ j = mul-le-mul-right (4 ^ j) p in
-    absurd (omega (arith, one-mul (4 ^ j))))
-    (λ g. g)
 
 pub four : (j : ℕ) → 4 ^ j ≡ 2 ^ (2 * j)
 four zero = refl
@@ -47,24 +33,37 @@ size-some n p =
     let e : size n ≡ 0 = omega arith in
     absurd (omega (arith, rw e at (size-lt n))))
 
+-- by the number of digits
+pub by-digits : (n b : ℕ) → 1 ≤ b → b ≤ 48 → 2 ^ (b - 1) ≤ n → n < 2 ^ b → Scaling n (n * 4 ^ ((48 - b) / 2)) ((48 - b) / 2)
+by-digits n b some top from to =
+    let j = (48 - b) / 2 in
+    let e : n * 4 ^ j ≡ n * 2 ^ (2 * j) = ap (λ (x : ℕ). n * x) (four j) in
+    let low : 2 ^ (b - 1) * 2 ^ (2 * j) ≤ n * 2 ^ (2 * j) = mul-le-mul-right (2 ^ (2 * j)) from in
+    let high : n * 2 ^ (2 * j) < 2 ^ b * 2 ^ (2 * j) = mul-lt-mul-of-pos-right to (pow-pos (2 * j)) in
+    let l : 2 ^ 46 ≤ 2 ^ (b - 1 + 2 * j) = pow-mono {i = 46} (omega arith) in
+    let m : 2 ^ (b + 2 * j) ≤ 2 ^ 48 = pow-mono {j = 48} (omega arith) in
+    record {
+      is = refl;
+      least = omega (arith, pow-add 2 (b - 1) (2 * j));
+      most = omega (arith, pow-add 2 b (2 * j));
+      small = omega arith;
+    }
+
 -- the definition's own
 pub scaling : (n : ℕ) → 0 < n → n < 2 ^ 48 → Scaling n (n * 4 ^ scaleOf n) (scaleOf n)
 scaling n p h =
-    let s = size n in
-    let j = scaleOf n in
     let some = size-some n p in
-    let top : s ≤ 48 = size-le n 48 h in
-    let e : n * 4 ^ j ≡ n * 2 ^ (2 * j) = ap (λ (x : ℕ). n * x) (four j) in
-    let a : 2 ^ (s - 1) * 2 ^ (2 * j) ≤ n * 2 ^ (2 * j) = mul-le-mul-right (2 ^ (2 * j)) (size-reaches n (s - 1) (omega arith)) in
-    let b : n * 2 ^ (2 * j) < 2 ^ s * 2 ^ (2 * j) = mul-lt-mul-of-pos-right (size-lt n) (pow-pos (2 * j)) in
-    let l : 2 ^ 46 ≤ 2 ^ (s - 1 + 2 * j) = pow-mono {i = 46} (omega arith) in
-    let m : 2 ^ (s + 2 * j) ≤ 2 ^ 48 = pow-mono {j = 48} (omega arith) in
-    record {
-      is = refl;
-      least = omega (arith, pow-add 2 (s - 1) (2 * j));
-      most = omega (arith, pow-add 2 s (2 * j));
-      small = omega arith;
-    }
+    by-digits n (size n) some (size-le n 48 h) (size-reaches n (size n - 1) (omega arith)) (size-lt n)
+
+-- the code's, by a shift
+pub shifted : (n b : ℕ) → 1 ≤ b → b ≤ 32 → 2 ^ (b - 1) ≤ n → n < 2 ^ b
+    → Scaling n (n * 2 ^ (2 * ((48 - b) / 2)) % 2 ^ 64) ((48 - b) / 2)
+shifted n b some top from to =
+    let j = (48 - b) / 2 in
+    let e : n * 4 ^ j ≡ n * 2 ^ (2 * j) % 2 ^ 64 =
+    ap (λ (x : ℕ). n * x) (four j) ∙ sym (shl-exact b (2 * j) 64 to (omega arith))
+    in
+    subst (λ (v : ℕ). Scaling n v j) e (by-digits n b some (omega arith) from to)
 
 -- ---- the whole part
 
@@ -75,6 +74,37 @@ floor-of v s l h a b =
       above = b;
       least = by-le 8388608 s (λ g. g) (λ g. let q : (s + 1) * (s + 1) ≤ 8388608 * 8388608 = sq-le {a = s + 1} {b = 8388608} (omega arith) in absurd (omega arith));
       most = by-le 16777216 s (λ g. let q : 16777216 * 16777216 ≤ s * s = sq-le g in absurd (omega arith)) (λ g. g);
+    }
+
+-- a product is at most the square of the mean
+mean : (a d : ℕ) → 4 * (a * (a + d)) ≤ (a + (a + d)) * (a + (a + d))
+mean a d = omega arith
+
+-- s is above the root of v: the mean of s and v / s is not below its whole part, and below s
+pub record Closer (v s t : ℕ) : Type 0 where
+  pub less : t < s
+  pub least : 8388608 ≤ t
+  pub above : v < (t + 1) * (t + 1)
+
+pub nearer : (v s : ℕ) → 2 ^ 46 ≤ v → 8388608 ≤ s → v < s * s → Closer v s ((s + v / s) / 2)
+nearer v s l h g =
+    let q = v / s in
+    let t = (s + q) / 2 in
+    let p : 0 < s = omega arith in
+    let under : q < s = div-lt-iff-lt-mul p .1 g in
+    let over : v < (q + 1) * s = div-lt-iff-lt-mul p .0 (omega arith) in
+    let e : q + 1 + (s - (q + 1)) ≡ s = omega arith in
+    let m : 4 * ((q + 1) * s) ≤ (q + 1 + s) * (q + 1 + s) =
+    subst (λ (x : ℕ). 4 * ((q + 1) * x) ≤ (q + 1 + x) * (q + 1 + x)) e (mean (q + 1) (s - (q + 1)))
+    in
+    let w : (q + 1 + s) * (q + 1 + s) ≤ 2 * (t + 1) * (2 * (t + 1)) = sq-le (omega arith) in
+    let r : v < (t + 1) * (t + 1) = omega (arith, over, m, w) in
+    record {
+      less = omega arith;
+      least =
+          by-le 8388608 t (λ g. g)
+          (λ g. let k : (t + 1) * (t + 1) ≤ 8388608 * 8388608 = sq-le {a = t + 1} {b = 8388608} (omega arith) in absurd (omega arith));
+      above = r;
     }
 
 -- t is the whole part of the root of v / 4

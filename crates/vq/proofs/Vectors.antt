@@ -8,11 +8,11 @@ use lib.ListN.{length, getD, take}
 use lib.Ieee.{Float}
 use Rattle.entdec.specs.declared.Reader.{Reader}
 use Rattle.entdec.proofs.Values.{uint-value}
-use Rattle.cwrs.specs.Count.{Vn}
+use Rattle.cwrs_counts.specs.Count.{Vn}
 use Rattle.cwrs.specs.Word.{pulses, energy}
 use Rattle.cwrs.specs.declared.Found.{Found}
 use Rattle.cwrs.specs.Answer.{readIndex, readWord, foundOf}
-use Rattle.cwrs.proofs.Recurrence.{V-four}
+use Rattle.cwrs_counts.proofs.Recurrence.{V-four}
 use Rattle.cwrs.proofs.Words.{pulses-cons, energy-pos, energy-le}
 use Rattle.cwrs.proofs.Back.{word-first}
 use Rattle.cwrs.proofs.Inverse.{word-right}

@@ -10,7 +10,7 @@ use lib.Ieee.{Float, neg, le}
 use Rattle.laws.specs.Signs.{clip, inRange}
 use Rattle.entdec.specs.declared.Reader.{Reader}
 use Rattle.entdec.specs.Rule.{readRefusal}
-use Rattle.cwrs.specs.Count.{Vn}
+use Rattle.cwrs_counts.specs.Count.{Vn}
 use Rattle.cwrs.specs.Answer.{readIndex, readWord}
 use Rattle.vq.specs.Shape.{one, shapeOf}
 use Rattle.vq.specs.Mask.{collapse}

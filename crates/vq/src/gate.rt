@@ -6,7 +6,7 @@ ghost use lib.IntN.{pos};
 ghost use Rattle.laws.specs.Signs.{clip, inRange};
 ghost use Rattle.entdec.specs.Rule.{readRefusal};
 ghost use Rattle.vq.specs.Answer.{lengthOk, partsOk, numbersOk, gainOk, ownShape};
-use cwrs::work::pvq_v;
+use cwrs_counts::pvq_v;
 use entdec::Reader;
 use laws::clipped;
 use laws::in_range;

@@ -10,35 +10,27 @@ pub struct Scaled {
 }
 
 // n times the power of 4 that gives it 47 or 48 binary digits.
-fn scale(n: u64) -> Scaled
-    requires { ⌜ (0 < n) × (n < 2 ^ 48) ⌝ }
+fn scale(n: u32) -> Scaled
+    requires { ⌜ 0 < n ⌝ }
     ensures { λ r. ⌜ Scaling n (r .v) (r .j) ⌝ }
 {
-    let mut v = n;
-    let mut j: u32 = 0;
-    while v < 70368744177664 {
-        v = v * 4;
-        j += 1;
+    let j = (48 - entcode::ilog(n)) / 2;
+    Scaled {
+        v: (n as u64) << (2 * j),
+        j,
     }
-    Scaled { v, j }
 }
 
-// The whole part of the square root of v.
+// The whole part of the square root of v: from above, each turn takes the mean of s and v / s.
 fn floor_root(v: u64) -> u64
     requires { ⌜ (2 ^ 46 ≤ v) × (v < 2 ^ 48) ⌝ }
     ensures { λ s. ⌜ Floor v s ⌝ }
 {
-    let mut low: u64 = 8388608;
-    let mut high: u64 = 16777216;
-    while low + 1 < high {
-        let mid = (low + high) / 2;
-        if mid * mid <= v {
-            low = mid;
-        } else {
-            high = mid;
-        }
+    let mut s: u64 = 16777216;
+    while v < s * s {
+        s = (s + v / s) / 2;
     }
-    low
+    s
 }
 
 // The whole number nearest to the square root of v.
@@ -55,7 +47,7 @@ pub fn sqrt(n: u32) -> f32
     requires { ⌜ 0 < n ⌝ }
     ensures { λ r. ⌜ r ≡ rootOf n ⌝ }
 {
-    let s = scale(n as u64);
+    let s = scale(n);
     let m = near_root(s.v);
     let d = 1u64 << s.j;
     (m as f32) / (d as f32)

@@ -6,7 +6,7 @@ ghost use lib.IntN.{pos, natAbs};
 ghost use lib.ListN.{length, getD};
 ghost use lib.Ieee.{binary32, ofInt};
 ghost use Rattle.entdec.specs.Ready as reader;
-ghost use Rattle.cwrs.specs.Count.{Vn};
+ghost use Rattle.cwrs_counts.specs.Count.{Vn};
 ghost use Rattle.cwrs.specs.Answer.{readWord};
 ghost use Rattle.vq.specs.Shape.{factorOf, scaled, shapeOf};
 ghost use Rattle.vq.specs.Mask.{silent, part, collapse};

@@ -2,7 +2,7 @@ use mathlib.Core.Path.{_≡_, sym, _∙_}
 use mathlib.Core.Bool.{true}
 use native.Mathlib.Omega.{arith}
 use Rattle.cwrs.specs.Answer.{inDomain}
-use Rattle.cwrs.proofs.Recurrence.{count-zero, count-some}
+use Rattle.cwrs_counts.proofs.Recurrence.{count-zero, count-some}
 use Rattle.cwrs.proofs.Refusing.{domain, read-none, read-seven}
 use borrow.Author.Needs.{needs}
 use Rattle.cwrs.proofs.gate.own_read.Statement.{statement}

@@ -5,7 +5,7 @@ use lib.ListN.{length}
 use borrow.Author.Tests.{eqb-true}
 use denote.Ref.{now}
 use Rattle.cwrs.specs.Answer.{inDomain, isRoom}
-use Rattle.cwrs.proofs.Recurrence.{count-zero, count-some}
+use Rattle.cwrs_counts.proofs.Recurrence.{count-zero, count-some}
 use Rattle.cwrs.proofs.Refusing.{Domain, domain, write-none, write-seven, write-eight}
 use borrow.Author.Needs.{needs}
 use Rattle.cwrs.proofs.gate.own_write.Statement.{statement}

@@ -1,6 +1,6 @@
 use native.Mathlib.Omega.{arith}
 use denote.Ref.{now}
-use Rattle.cwrs.proofs.Recurrence.{V-is′, V-four, count-is}
+use Rattle.cwrs_counts.proofs.Recurrence.{V-four, count-is}
 use Rattle.cwrs.proofs.Back.{first-pulses-le}
 use Rattle.cwrs.proofs.Answers.{places, found}
 use borrow.Author.Needs.{needs}
@@ -20,7 +20,7 @@ cwrsi-requires : tie.Need-cwrsi-requires
 cwrsi-requires c κs =
     let b = c .before .before .before .before .before in
     let p = b .pre .1 in
-    (p .2, p .1, p .4, omega (arith, p .5, V-is′ (b .args .n) (b .args .k)))
+    (p .2, p .1, p .4, count-is (b .args .n) (b .args .k) (c .before .before .before .pvq-v .ensures) (p .5))
 
 energy-requires : tie.Need-energy-requires
 energy-requires c κs =

@@ -2,8 +2,8 @@ use mathlib.Core.Path.{ap}
 use native.Mathlib.Omega.{arith}
 use denote.Ref.{now}
 use Rattle.entenc.specs.Write.{wr}
-use Rattle.cwrs.specs.Count.{Vn}
-use Rattle.cwrs.proofs.Recurrence.{V-four, count-is}
+use Rattle.cwrs_counts.specs.Count.{Vn}
+use Rattle.cwrs_counts.proofs.Recurrence.{V-four, count-is}
 use Rattle.cwrs.proofs.Inverse.{index-below}
 use Rattle.cwrs.proofs.Answers.{wrote}
 use borrow.Author.Needs.{needs}

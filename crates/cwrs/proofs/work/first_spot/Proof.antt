@@ -1,19 +1,24 @@
-use Prim.Native.Nat.{ℕ, _-_}
-use mathlib.Core.Path.{ap, _∙_}
+use Prim.Native.Nat.{ℕ, _+_, _-_}
+use mathlib.Core.Path.{_≡_, ap, _∙_}
 use native.Mathlib.Omega.{arith}
 use mir.Syntax.{w32}
 use mir.Facts.{toZ-ofZ}
-use Rattle.cwrs.proofs.Recurrence.{up1′}
+use Rattle.cwrs_counts.specs.Count.{U, Vn}
+use Rattle.cwrs_counts.proofs.Recurrence.{V-is′, V-less, up1′}
 use Rattle.cwrs.proofs.Back.{first}
 use borrow.Author.Needs.{needs}
 use Rattle.cwrs.proofs.work.first_spot.Statement.{statement}
 use Rattle.cwrs.proofs.work.first_spot.Tie as tie
 
-add-pvq-u : tie.Need-add-pvq-u
-add-pvq-u c = search needs
-
 pvq-u-requires : tie.Need-pvq-u-requires
-pvq-u-requires c κs = search needs
+pvq-u-requires c κs = omega (arith, c .fits .v, V-is′ (c .args .n) (c .args .k))
+
+sub-p : tie.Need-sub-p
+sub-p c = omega (arith, V-is′ (c .before .args .n) (c .before .args .k))
+
+-- what is left of the vectors is the next count
+next : (c : tie.After-pvq-u) → let a = c .before .args in a .v - c .pvq-u .result ≡ U (a .n) (a .k + 1)
+next c = omega (arith, c .pvq-u .ensures, c .before .pre .3, V-is′ (c .before .args .n) (c .before .args .k))
 
 among-requires : tie.Need-among-requires
 among-requires c κs = search needs
@@ -21,10 +26,7 @@ among-requires c κs = search needs
 reach-requires : tie.Need-reach-requires
 reach-requires c κs =
     let b = c .before .before in
-    omega (arith, up1′ (b .args .n) (b .args .k) (b .pre .0))
-
-pvq-u-requires-2 : tie.Need-pvq-u-requires-2
-pvq-u-requires-2 c κs = search needs
+    (b .pre .0, b .pre .1, omega arith, c .before .pvq-u .ensures, next (c .before))
 
 sub-value-of : tie.Need-sub-value-of
 sub-value-of c = search needs
@@ -35,31 +37,42 @@ cast-value-of c = search needs
 value-of-requires : tie.Need-value-of-requires
 value-of-requires c κs = search needs
 
-sub-t12 : tie.Need-sub-t12
-sub-t12 c = search needs
+sub-t13 : tie.Need-sub-t13
+sub-t13 c = search needs
+
+-- the counts where the search ended
+sub-t14 : tie.Need-sub-t14
+sub-t14 c =
+    let r = c .before .before .before .before in
+    let b = r .before .before .before in
+    omega (arith, r .reach .ensures .2, r .reach .ensures .3, up1′ (b .args .n) (r .reach .result .left) (b .pre .0))
 
 returns : tie.Need-returns
 returns c =
-    let a = c .before .before .before .before .before .args in
-    let p = c .before .before .before .before .pvq-u in
-    let q = c .before .before .before .among in
-    let j = c .before .before .reach in
-    let u = c .before .pvq-u2 in
-    let v = c .value-of in
-    let f = first (a .n) (a .k) (a .i) (p .ensures) (q .ensures .0) (j .ensures .0) in
-    (toZ-ofZ {w = w32} (record { sfits = v .ok }) ∙ v .ensures ∙ f .value, f .left, ap (λ (x : ℕ). q .result - x) (u .ensures) ∙ f .rest)
+    let r = c .before .before .before .before in
+    let b = r .before .before .before in
+    let a = b .args in
+    let q = r .before .among in
+    let j = r .reach in
+    let v = c .before .before .value-of in
+    let f = first (a .n) (a .k) (a .i) (next (r .before .before)) (q .ensures .0) (j .ensures .0) in (
+      toZ-ofZ {w = w32} (record { sfits = v .ok }) ∙ v .ensures ∙ f .value,
+      f .left,
+      ap (λ (x : ℕ). q .result - x) (j .ensures .2) ∙ f .rest,
+      omega (arith, j .ensures .2, j .ensures .3, V-less (a .n) (j .result .left) (b .pre .0)),
+    )
 
 pub first-spot-spec : {M : Type 1} → statement M
 first-spot-spec =
     tie.close
     (tie.spec
-    add-pvq-u
     pvq-u-requires
+    sub-p
     among-requires
     reach-requires
-    pvq-u-requires-2
     sub-value-of
     cast-value-of
     value-of-requires
-    sub-t12
+    sub-t13
+    sub-t14
     returns)

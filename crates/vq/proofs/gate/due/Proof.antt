@@ -1,6 +1,6 @@
 -- `vq::gate::due`: 7 by the count, then 9. Assumes nothing.
 use native.Mathlib.Omega.{arith}
-use Rattle.cwrs.proofs.Recurrence.{count-zero, count-some}
+use Rattle.cwrs_counts.proofs.Recurrence.{count-zero, count-some}
 use Rattle.vq.proofs.Refusing.{own-seven, own-nine, own-none}
 use borrow.Author.Needs.{needs}
 use Rattle.vq.proofs.gate.due.Statement.{statement}

@@ -1,0 +1,3 @@
+pub mod Recurrence
+pub mod Arms
+pub mod Table
