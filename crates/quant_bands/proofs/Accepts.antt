@@ -16,9 +16,10 @@ use Rattle.entdec.specs.declared.Reader.{Reader}
 use Rattle.quant_bands.specs.declared.EnergyRead.the-variants.{Got, Refused}
 use Rattle.quant_bands.specs.Asked.{BandsIn}
 use Rattle.quant_bands.specs.Coarse.{Decoded, decoded, Going, going, begun, coarse, coarseBand}
-use Rattle.quant_bands.specs.Finalise.{Spending, spending, spendPass, finalise}
+use Rattle.quant_bands.specs.Finalise.{Spending, spending, finalise}
 use Rattle.quant_bands.specs.Question.{bandsOk, coarseOk, entryOf, isIntra, refusalCoarse, refusalFinalise}
 use Rattle.quant_bands.specs.Answer.{after, answer, numberOf, coarseReading, finaliseReading}
+use Rattle.quant_bands.proofs.Ranged.{pass}
 
 -- ---- numbers
 
@@ -59,11 +60,10 @@ pub coarse-is : (c lm : ℕ) (intra : Bool) (start end : ℕ) (s : List ℕ) (d 
 unfolding coarse
 coarse-is c lm intra start end s d es e = ap (λ (g : Going). decoded (g .energies) (g .next)) e
 
-pub finalise-is : (c : ℕ) (fine priority : ℕ → ℕ) (start end left : ℕ) (s : List ℕ) (d : Reader) (es : List Float) {y z : Spending}
-    → y ≡ spendPass c 0 fine priority start end s (spending es left d) → z ≡ spendPass c 1 fine priority start end s y
-    → decoded (z .energies) (z .next) ≡ finalise c fine priority start end left s d es
-unfolding finalise
-finalise-is c fine priority start end left s d es p q = rw (q, p)
+pub finalise-is : (c : ℕ) (fine priority : ℕ → ℕ) (start end left : ℕ) (s : List ℕ) (d : Reader) (es : List Float) {y : Spending}
+    → y ≡ overPlaces (pass c fine priority start end s) 0 2 (spending es left d) → decoded (y .energies) (y .next) ≡ finalise c fine priority start end left s d es
+unfolding finalise overPlaces
+finalise-is c fine priority start end left s d es e = ap (λ (g : Spending). decoded (g .energies) (g .next)) e
 
 -- ---- answers
 

@@ -1,7 +1,7 @@
 -- One energy and one band of the last bits, from what the calls ensure, and the reader after them. Assumes nothing.
 use Prim.Native.Nat.{ℕ, suc, _+_, _-_, _≤_, _<_}
 use mathlib.Core.Path.{_≡_, refl, ap}
-use mathlib.Core.Bool.{true, false, _&&_, and-eq-true-iff}
+use mathlib.Core.Bool.{true, false, _&&_, and-false, and-eq-true-iff}
 use mathlib.Core.List.{List}
 use native.Mathlib.Omega.{arith}
 use lib.Dec.{ltb, leb, eqb}
@@ -69,3 +69,8 @@ spend-band-ready n c turn fine priority s i g r =
     (λ e.
     cond-by (λ (x : Spending). Ready n (x .next)) (leb 2 c) (λ e. spend-ready n (fine i) s (i + 21) _ a) (λ e. ready-less n (suc n) _ (omega arith) a))
     (λ e. ready-less n (suc (suc n)) (g .next) (omega arith) r)
+
+-- a band whose channels do not find a bit each takes none
+pub short-none : (c turn : ℕ) (fine priority : ℕ → ℕ) (s : List ℕ) (i : ℕ) (g : Spending) → g .left < c → spendBand c turn fine priority s i g ≡ g
+unfolding spendBand takes
+short-none c turn fine priority s i g h = rw (lt-leb c (g .left) h, and-false (ltb (fine i) 8 && eqb (priority i) turn))

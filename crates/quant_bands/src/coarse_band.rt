@@ -9,13 +9,14 @@ use modes::energy_model::zero_in;
 use modes::prediction::beta_of;
 use modes::prediction::coef_of;
 ghost use mathlib.Core.Path.{_≡_};
-ghost use mathlib.Core.Bool.{true};
-ghost use Prim.Native.Nat.{_<_};
+ghost use mathlib.Core.Bool.{true, cond};
+ghost use lib.Dec.{leb};
+ghost use Prim.Native.Nat.{_-_, _≤_, _<_};
 ghost use lib.ListN.{length};
 ghost use Rattle.modes.specs.EnergyModel.{energyModel};
 ghost use Rattle.modes.specs.Laplace.{legal};
 ghost use Rattle.entdec.specs.Ready.{Ready};
-ghost use Rattle.quant_bands.specs.Coarse.{going, kindOf, stepped, energyAt, coarseBand};
+ghost use Rattle.quant_bands.specs.Coarse.{going, kindOf, stepped, energyAt, firstAt, secondAt, coarseBand};
 
 // What a band is decoded with: the places of zero and the decay of its Laplace values, and the two shares of the prediction.
 pub struct Kind {
@@ -70,7 +71,44 @@ fn energy(e: &mut [f32], k: usize, m: Kind, prev: f32, s: &[u8], d: Reader) -> H
     }
 }
 
-// Band i of c channels.
+// b for the second channel, else a.
+fn pick(second: bool, a: f32, b: f32) -> f32
+    ensures { λ r. ⌜ r ≡ cond second b a ⌝ }
+{
+    if second { b } else { a }
+}
+
+// Where the energies of c channels end.
+fn end_of(c: u32) -> usize
+    ensures { λ r. ⌜ (r ≡ cond (leb 2 c) 42 21) × (r ≤ 42) ⌝ }
+{
+    if c < 2 { 21 } else { 42 }
+}
+
+// The energy at place k, with what its channel inherits and hands on.
+fn channel(e: &mut [f32], m: Kind, k: usize, s: &[u8], g: Hands) -> Hands
+    requires { ⌜ k < length (now e) ⌝ }
+    requires { ⌜ legal (m .zero) (m .decay) ≡ true ⌝ }
+    requires { ⌜ Ready 1 (g .next) ⌝ }
+    ensures { λ r.
+        ⌜ going (now (e .exit)) (r .first) (r .second) (r .next)
+        ≡ cond (leb 21 k)
+        (secondAt m (now (s .entry)) (k - 21) (going (now (e .entry)) (g .first) (g .second) (g .next)))
+        (firstAt m (now (s .entry)) k (going (now (e .entry)) (g .first) (g .second) (g .next))) ⌝ }
+{
+    let second = 21 <= k;
+    let d = g.next;
+    let prev = pick(second, g.first, g.second);
+    let y = energy(e, k, m, prev, s, d);
+    let next = y.next;
+    Hands {
+        first: pick(second, y.hands, g.first),
+        second: pick(second, g.second, y.hands),
+        next,
+    }
+}
+
+// Band i of c channels. One call, in a loop over the channels' places, so that reading a step is inlined.
 pub fn coarse_band(
     e: &mut [f32],
     t: &[u8],
@@ -88,21 +126,12 @@ pub fn coarse_band(
         ≡ coarseBand c lm intra (now (s .entry)) i (going (now (e .entry)) (g .first) (g .second) (g .next)) ⌝ }
 {
     let m = kind_of(t, lm, intra, i);
-    let d = g.next;
-    let y = energy(e, i, m, g.first, s, d);
-    let then = y.next;
-    if c < 2 {
-        return Hands {
-            first: y.hands,
-            second: g.second,
-            next: then,
-        };
+    let end = end_of(c);
+    let mut y = g;
+    let mut k = i;
+    while k < end {
+        y = channel(e, m, k, s, y);
+        k += 21;
     }
-    let z = energy(e, i + 21, m, g.second, s, then);
-    let last = z.next;
-    Hands {
-        first: y.hands,
-        second: z.hands,
-        next: last,
-    }
+    y
 }

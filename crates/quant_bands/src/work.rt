@@ -67,7 +67,7 @@ pub fn coarse(
     g.next
 }
 
-// The last bits, in the pass of a priority.
+// The last bits, in the pass of a priority. Where a band's channels no longer find a bit each, no later band's do.
 fn spend_pass(
     g: LeftOver,
     s: &[u8],
@@ -87,14 +87,14 @@ fn spend_pass(
 {
     let mut y = g;
     let mut i = start;
-    while i < end {
+    while (i < end) & (c <= y.left) {
         y = spend_band(energies, fine, priorities, turn, c, i, s, y);
         i += 1;
     }
     y
 }
 
-// The last bits of a frame, in place. The reader after them is answered.
+// The last bits of a frame, in place: one call, in a loop over the priorities, so that a pass is inlined. The reader after them is answered.
 pub fn finalise(
     d: Reader,
     s: &[u8],
@@ -112,8 +112,11 @@ pub fn finalise(
         ⌜ decoded (now (energies .exit)) r
         ≡ finalise c (entryOf (now (fine .entry))) (entryOf (now (priorities .entry))) start end left (now (s .entry)) d (now (energies .entry)) ⌝ }
 {
-    let g = LeftOver { left, next: d };
-    let y = spend_pass(g, s, energies, 0, c, start, end, fine, priorities);
-    let z = spend_pass(y, s, energies, 1, c, start, end, fine, priorities);
-    z.next
+    let mut y = LeftOver { left, next: d };
+    let mut turn: u32 = 0;
+    while turn < 2 {
+        y = spend_pass(y, s, energies, turn, c, start, end, fine, priorities);
+        turn += 1;
+    }
+    y.next
 }

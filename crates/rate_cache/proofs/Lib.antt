@@ -3,5 +3,6 @@ pub mod Subs
 pub mod Near
 pub mod Costs
 pub mod Halvings
+pub mod Packings
 pub mod Gates
 pub mod Figures

@@ -18,6 +18,7 @@ ghost use Rattle.rate_cache.specs.Lookups.{
   pulsesToBits,
 };
 
+mod packed;
 mod row;
 
 // What a lookup answers: what it found, or the number of the refusal.
@@ -63,11 +64,7 @@ fn no_row(lm: usize, band: usize) -> u32
     requires { ⌜ (lm < 5) × (band < 21) ⌝ }
     ensures { λ r. ⌜ r ≡ noRow lm band ⌝ }
 {
-    if modes::cache_index::place_of(lm, band) == 0 {
-        5
-    } else {
-        0
-    }
+    if packed::mark_of(lm, band) == 0 { 5 } else { 0 }
 }
 
 // 5 where there is no row, 6 where the row has no such index.
@@ -75,11 +72,11 @@ fn no_entry(lm: usize, band: usize, pulses: i32) -> u32
     requires { ⌜ (lm < 5) × (band < 21) ⌝ }
     ensures { λ r. ⌜ r ≡ noEntry lm band pulses ⌝ }
 {
-    let at = modes::cache_index::place_of(lm, band);
-    if at == 0 {
+    let mark = packed::mark_of(lm, band);
+    if mark == 0 {
         return 5;
     }
-    let most = row::length_at(at - 1);
+    let most = (mark / 512) as i32;
     if laws::in_range(pulses, 0, most) {
         0
     } else {
@@ -92,7 +89,8 @@ fn row_of(band: i32, lm: i32) -> usize
     requires { ⌜ HasRow band lm ⌝ }
     ensures { λ r. ⌜ r ≡ rowStart (levelOf lm) (clip band) ⌝ }
 {
-    modes::cache_index::place_of(level(lm), laws::clipped(band) as usize) - 1
+    let mark = packed::mark_of(level(lm), laws::clipped(band) as usize);
+    (mark % 512 - 1) as usize
 }
 
 // The number of the refusal of a call without lists and coder.

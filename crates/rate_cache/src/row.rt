@@ -1,17 +1,10 @@
 // The two lookups in a row of the pulse cache. Callers know them by pulsesFor and bitsFor alone, not by the search.
+use crate::packed;
 ghost use mathlib.Core.Path.{_≡_};
 ghost use Prim.Native.Nat.{_+_, _≤_, _<_};
 ghost use lib.IntN.{pos};
-ghost use Rattle.modes.specs.CacheBits.{cacheBits, rowLength, Row};
+ghost use Rattle.modes.specs.CacheBits.{cacheBits, Row};
 ghost use Rattle.rate_cache.specs.Rows.{pulsesFor, bitsFor};
-
-// The length of a row, as its greatest index.
-pub fn length_at(start: usize) -> i32
-    requires { ⌜ start < 392 ⌝ }
-    ensures { λ r. ⌜ r ≡ pos (rowLength start) ⌝ }
-{
-    modes::cache_bits::length_of(start) as i32
-}
 
 // What an index of pulses costs, from the table lent.
 fn cost_in(t: &[u8], start: usize, i: usize) -> u32
@@ -35,7 +28,7 @@ fn nearest_in(t: &[u8], start: usize, bits: u32) -> usize
     while 0 < n {
         n -= 1;
         let mid = (lo + hi + 1) / 2;
-        let m = cost_in(t, start, mid);
+        let m = modes::cache_bits::entry_in(t, start, mid) + 1;
         if m < bits {
             lo = mid;
         } else {
@@ -61,6 +54,10 @@ pub fn bits_for(start: usize, pulses: usize) -> u32
     requires { ⌜ start + pulses < 392 ⌝ }
     ensures { λ r. ⌜ r ≡ bitsFor start pulses ⌝ }
 {
-    let t = modes::cache_bits::table();
-    cost_in(&t, start, pulses)
+    if pulses == 0 {
+        return 0;
+    }
+    let p = start + pulses;
+    let w = packed::eight_entries(p / 8);
+    ((w >> (8 * (p % 8))) % 256) as u32 + 1
 }

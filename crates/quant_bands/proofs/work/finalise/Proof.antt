@@ -1,38 +1,83 @@
--- `quant_bands::work::finalise`: one pass, and then the other. Assumes nothing.
-use mathlib.Core.Path.{_∙_}
+-- `quant_bands::work::finalise`: the passes done so far. Assumes nothing.
+use Prim.Native.Nat.{ℕ, _-_, _≤_}
+use mathlib.Core.Path.{_≡_, refl, ap, _∙_}
+use native.Mathlib.Omega.{arith}
 use denote.Ref.{now}
-use borrow.Author.Needs.{needs}
+use lib.ListN.{length}
+use Rattle.laws.specs.Places.{overPlaces}
+use Rattle.laws.proofs.Places.{places-none, places-up}
 use Rattle.quant_bands.specs.Finalise.{spending}
 use Rattle.quant_bands.specs.Question.{entryOf}
-use Rattle.quant_bands.proofs.Ranged.{pass-after}
+use Rattle.quant_bands.proofs.Ranged.{pass, turn-ready}
 use Rattle.quant_bands.proofs.Accepts.{finalise-is}
 use Rattle.quant_bands.proofs.work.finalise.Statement.{statement}
 use Rattle.quant_bands.proofs.work.finalise.Tie as tie
 
-spend-pass-requires : tie.Need-spend-pass-requires
-spend-pass-requires c κs = search needs
+abbrev Inv-loop : tie.InvT-loop
+Inv-loop s energies₀ c start end fine priorities left y₀ turn₀ energies y turn =
+    (turn ≤ 2) × (length energies ≡ length energies₀)
+    × (spending energies (y .left) (y .next)
+    ≡ overPlaces (pass c (entryOf fine) (entryOf priorities) start end s) 0 (turn - 0) (spending energies₀ (y₀ .left) (y₀ .next)))
 
-spend-pass-requires-2 : tie.Need-spend-pass-requires-2
-spend-pass-requires-2 c κs =
-    let y = c .before .before .before in
-    let p = y .before .before .before .before in
+abbrev μ-loop : tie.MeasureT-loop
+μ-loop s energies₀ c start end fine priorities left y₀ turn₀ energies y turn = 2 - turn
+
+loop-holds : tie.Need-loop-holds Inv-loop μ-loop
+loop-holds c =
+    let a = c .before .before .args in
+    (omega arith, refl, places-none (pass (a .c) (entryOf (now (a .fine))) (entryOf (now (a .priorities))) (a .start) (a .end) (now (a .s))) 0 _)
+
+spend-pass-requires : tie.Need-spend-pass-requires Inv-loop μ-loop
+spend-pass-requires c κs =
+    let t = c .before .loop-test in
+    let l = c .before .before .loop in
+    let p = c .before .before .before .before .before in
     let a = p .args in
     let q = p .pre .0 in (
-      (q .0, y .spend-pass .kept .1 .1 .0 ∙ q .1, q .2, q .3),
-      pass-after (a .c) 0 (entryOf (now (a .fine))) (entryOf (now (a .priorities))) (now (a .s)) (a .start) (spending (now (a .energies)) (a .left) (a .d)) (a .end) (q .0 .end-le) (p .pre .1)
-          (y .spend-pass .ensures),
+      (q .0, l .inv .1 ∙ q .1, q .2, q .3),
+      turn-ready (a .c) (entryOf (now (a .fine))) (entryOf (now (a .priorities))) (a .start) (a .end) (now (a .s)) (l .turn) (spending (now (a .energies)) (a .left) (a .d))
+          (q .0 .end-le) (omega (arith, t)) (p .pre .1) (l .inv .2),
     )
 
-same-length : tie.Need-same-length
-same-length c = search needs
+add-turn : tie.Need-add-turn Inv-loop μ-loop
+add-turn c = omega arith
 
-returns : tie.Need-returns
+loop-less : tie.Need-loop-less Inv-loop μ-loop
+loop-less c = omega arith
+
+loop-again : tie.Need-loop-again Inv-loop μ-loop
+loop-again c =
+    let r = c .before .before .spend-pass in
+    let t = c .before .before .before .before .loop-test in
+    let l = c .before .before .before .before .before .loop in
+    let a = c .before .before .before .before .before .before .before .before .args in (
+      omega (arith, t),
+      r .kept .1 .1 .0 ∙ l .inv .1,
+      places-up (pass (a .c) (entryOf (now (a .fine))) (entryOf (now (a .priorities))) (a .start) (a .end) (now (a .s))) 0 (l .turn) _ (omega arith) (l .inv .2) (r .ensures),
+    )
+
+same-length : tie.Need-same-length Inv-loop μ-loop
+same-length c = c .before .before .loop .inv .1
+
+returns : tie.Need-returns Inv-loop μ-loop
 returns c =
-    let z = c .before .before .before in
-    let y = z .before .before .before .before in
-    let a = y .before .before .before .before .args in
-    finalise-is (a .c) (entryOf (now (a .fine))) (entryOf (now (a .priorities))) (a .start) (a .end) (a .left) (now (a .s)) (a .d) (now (a .energies)) (y .spend-pass .ensures)
-    (z .spend-pass2 .ensures)
+    let l = c .before .before .loop in
+    let a = c .before .before .before .before .before .args in
+    let e : l .turn - 0 ≡ 2 = omega (arith, c .before .loop-test) in
+    finalise-is (a .c) (entryOf (now (a .fine))) (entryOf (now (a .priorities))) (a .start) (a .end) (a .left) (now (a .s)) (a .d) (now (a .energies))
+    (l .inv .2
+    ∙ ap (λ (n : ℕ). overPlaces (pass (a .c) (entryOf (now (a .fine))) (entryOf (now (a .priorities))) (a .start) (a .end) (now (a .s))) 0 n (spending (now (a .energies)) (a .left) (a .d))) e)
 
 pub finalise-spec : {M : Type 1} → statement M
-finalise-spec = tie.close (tie.spec spend-pass-requires spend-pass-requires-2 same-length returns)
+finalise-spec =
+    tie.close
+    (tie.spec
+    Inv-loop
+    μ-loop
+    loop-holds
+    spend-pass-requires
+    add-turn
+    loop-less
+    loop-again
+    same-length
+    returns)

@@ -1,15 +1,17 @@
 -- `quant_bands::work::spend_pass`: the bands done so far. Assumes nothing.
-use Prim.Native.Nat.{ℕ, _-_, _≤_}
-use mathlib.Core.Path.{_≡_, refl, ap, _∙_}
+use Prim.Native.Nat.{_-_, _≤_, _<_}
+use mathlib.Core.Path.{_≡_, refl, _∙_}
+use mathlib.Core.Bool.{and-eq-true-iff}
 use native.Mathlib.Nat.{le-refl}
 use native.Mathlib.Omega.{arith}
 use denote.Ref.{now}
 use lib.ListN.{length}
+use borrow.Author.Tests.{ltb-true}
 use Rattle.laws.specs.Places.{overPlaces}
 use Rattle.laws.proofs.Places.{places-none, places-up}
-use Rattle.quant_bands.specs.Finalise.{spending, spendBand, spendPass}
+use Rattle.quant_bands.specs.Finalise.{spending, spendBand}
 use Rattle.quant_bands.specs.Question.{entryOf}
-use Rattle.quant_bands.proofs.Ranged.{pass-ready}
+use Rattle.quant_bands.proofs.Ranged.{pass-ready, pass-over}
 use Rattle.quant_bands.proofs.work.spend_pass.Statement.{statement}
 use Rattle.quant_bands.proofs.work.spend_pass.Tie as tie
 
@@ -32,10 +34,15 @@ loop-holds c =
       places-none (spendBand (a .c) (a .turn) (entryOf (now (a .fine))) (entryOf (now (a .priorities))) (now (a .s))) (a .start) _,
     )
 
+-- a band is left
+inside : (t : tie.Then1 Inv-loop μ-loop) → let l = t .before .before in l .loop .i < l .before .before .before .args .end
+inside t = ltb-true _ _ (and-eq-true-iff _ _ .0 (t .if1 .taken) .0)
+
 spend-band-requires : tie.Need-spend-band-requires Inv-loop μ-loop
 spend-band-requires c κs =
-    let l = c .before .before .loop in
-    let p = c .before .before .before .before .before in
+    let l = c .before .before .before .loop in
+    let h = inside (c .before) in
+    let p = c .before .before .before .before .before .before in
     let a = p .args in
     let b = p .pre .0 .0 in (
       (l .inv .2 ∙ p .pre .0 .1, p .pre .0 .2, p .pre .0 .3, omega (arith, b .end-le), b .c-low),
@@ -46,30 +53,28 @@ add-i : tie.Need-add-i Inv-loop μ-loop
 add-i c = omega arith
 
 loop-less : tie.Need-loop-less Inv-loop μ-loop
-loop-less c = omega arith
+loop-less c = omega (arith, inside (c .before .before .before .before))
 
 loop-again : tie.Need-loop-again Inv-loop μ-loop
 loop-again c =
     let r = c .before .before .spend-band in
-    let l = c .before .before .before .before .before .loop in
-    let a = c .before .before .before .before .before .before .before .before .args in (
+    let t = c .before .before .before .before in
+    let l = t .before .before .loop in
+    let a = t .before .before .before .before .before .args in (
       omega (arith, l .inv),
-      omega arith,
+      omega (arith, inside t),
       r .kept .0 ∙ l .inv .2,
       places-up (spendBand (a .c) (a .turn) (entryOf (now (a .fine))) (entryOf (now (a .priorities))) (now (a .s))) (a .start) (l .i) _ (l .inv .0) (l .inv .3) (r .ensures),
     )
 
 same-length : tie.Need-same-length Inv-loop μ-loop
-same-length c = omega arith
+same-length c = c .before .before .loop .inv .2
 
 returns : tie.Need-returns Inv-loop μ-loop
-unfolding spendPass
 returns c =
-    let l = c .before .loop in
-    let a = c .before .before .before .before .args in
-    let e : l .i ≡ a .end = omega arith in
-    l .inv .3
-    ∙ ap (λ (n : ℕ). overPlaces (spendBand (a .c) (a .turn) (entryOf (now (a .fine))) (entryOf (now (a .priorities))) (now (a .s))) (a .start) (n - a .start) (spending (now (a .energies)) (a .g .left) (a .g .next))) e
+    let l = c .before .before .loop in
+    let a = c .before .before .before .before .before .args in
+    pass-over (a .c) (a .turn) (entryOf (now (a .fine))) (entryOf (now (a .priorities))) (now (a .s)) (a .start) _ (l .i) (a .end) (l .inv .0) (l .inv .1) (l .inv .3) (c .if1 .left)
 
 pub spend-pass-spec : {M : Type 1} → statement M
 spend-pass-spec =

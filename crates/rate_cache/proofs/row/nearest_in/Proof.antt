@@ -1,9 +1,10 @@
 -- `rate_cache::row::nearest_in`: six halvings leave two neighbours, and the nearer of them is the nearest index. Assumes nothing.
-use Prim.Native.Nat.{_+_, _≤_, _^_}
+use Prim.Native.Nat.{_+_, _/_, _≤_, _^_}
 use mathlib.Core.Path.{_≡_, refl}
 use mathlib.Core.Logic.{inl}
 use native.Mathlib.Omega.{arith}
 use Rattle.laws.proofs.Powers.{pow-half}
+use Rattle.rate_cache.proofs.Costs.{cost-some}
 use Rattle.rate_cache.proofs.Halvings.{Between, low-up, high-down, takes-low, takes-high}
 use Rattle.rate_cache.proofs.row.nearest_in.Statement.{statement}
 use Rattle.rate_cache.proofs.row.nearest_in.Tie as tie
@@ -35,11 +36,14 @@ add-mid c = let r = c .before .before .before .before .pre .1 in let w = c .befo
 add-mid-2 : tie.Need-add-mid-2 Inv-loop μ-loop
 add-mid-2 c = let r = c .before .before .before .before .pre .1 in let w = c .before .loop .inv .0 in omega (arith, r .length-most)
 
-cost-in-requires : tie.Need-cost-in-requires Inv-loop μ-loop
-cost-in-requires c κs =
+entry-in-requires : tie.Need-entry-in-requires Inv-loop μ-loop
+entry-in-requires c κs =
     let p = c .before .before .before .before .pre in
     let w = c .before .loop .inv .0 in
     (p .0, omega (arith, p .1 .inside))
+
+add-m : tie.Need-add-m Inv-loop μ-loop
+add-m c = omega (arith, c .entry-in .ensures .1)
 
 loop-less : tie.Need-loop-less Inv-loop μ-loop
 loop-less c = omega arith
@@ -48,8 +52,10 @@ loop-again : tie.Need-loop-again Inv-loop μ-loop
 loop-again c =
     let l = c .before .before .before in
     let w = l .loop .inv .0 in
+    let mid = (l .loop .lo + l .loop .hi + 1) / 2 in
+    let m = cost-some (l .before .before .before .args .start) mid (omega arith) in
     let h = pow-half (l .loop .n) (omega arith) in (
-      low-up _ _ (l .loop .lo) (l .loop .hi) _ w (omega arith) (omega arith) (omega arith) (rw (c .before .cost-in .ensures .0) at (c .if1 .taken)),
+      low-up _ _ (l .loop .lo) (l .loop .hi) mid w (omega arith) (omega arith) (omega arith) (omega (arith, c .before .entry-in .ensures .0, c .if1 .taken, m)),
       omega (arith, l .loop .inv .1),
     )
 
@@ -60,19 +66,21 @@ loop-again-2 : tie.Need-loop-again-2 Inv-loop μ-loop
 loop-again-2 c =
     let l = c .before .before .before in
     let w = l .loop .inv .0 in
+    let mid = (l .loop .lo + l .loop .hi + 1) / 2 in
+    let m = cost-some (l .before .before .before .args .start) mid (omega arith) in
     let h = pow-half (l .loop .n) (omega arith) in (
-      high-down _ _ (l .loop .lo) (l .loop .hi) _ w (omega arith) (omega arith) (omega arith) (rw (c .before .cost-in .ensures .0) at (c .if1 .left)),
+      high-down _ _ (l .loop .lo) (l .loop .hi) mid w (omega arith) (omega arith) (omega arith) (omega (arith, c .before .entry-in .ensures .0, c .if1 .left, m)),
       omega (arith, l .loop .inv .1),
     )
 
-cost-in-requires-2 : tie.Need-cost-in-requires-2 Inv-loop μ-loop
-cost-in-requires-2 c κs =
+cost-in-requires : tie.Need-cost-in-requires Inv-loop μ-loop
+cost-in-requires c κs =
     let p = c .before .before .before .before .pre in
     let w = c .before .loop .inv .0 in
     (p .0, omega (arith, p .1 .inside))
 
-cost-in-requires-3 : tie.Need-cost-in-requires-3 Inv-loop μ-loop
-cost-in-requires-3 c κs =
+cost-in-requires-2 : tie.Need-cost-in-requires-2 Inv-loop μ-loop
+cost-in-requires-2 c κs =
     let p = c .before .before .before .before .before .pre in
     let w = c .before .before .loop .inv .0 in
     (p .0, omega (arith, p .1 .inside))
@@ -94,7 +102,7 @@ returns c =
     let v = l .loop .inv in
     let z : l .loop .n ≡ 0 = omega arith in
     let near : l .loop .hi ≤ l .loop .lo + 1 = rw z at (v .1) in (
-      takes-low _ _ (l .loop .lo) (l .loop .hi) (p .1) (v .0) near (omega (arith, c .before .cost-in3 .ensures .0, c .before .before .cost-in2 .ensures .0)),
+      takes-low _ _ (l .loop .lo) (l .loop .hi) (p .1) (v .0) near (omega (arith, c .before .cost-in2 .ensures .0, c .before .before .cost-in .ensures .0)),
       omega (arith, v .0 .order, v .0 .inside, p .1 .length-most),
     )
 
@@ -105,7 +113,7 @@ returns-2 c =
     let v = l .loop .inv in
     let z : l .loop .n ≡ 0 = omega arith in
     let near : l .loop .hi ≤ l .loop .lo + 1 = rw z at (v .1) in (
-      takes-high _ _ (l .loop .lo) (l .loop .hi) (p .1) (v .0) near (omega (arith, c .before .cost-in3 .ensures .0, c .before .before .cost-in2 .ensures .0)),
+      takes-high _ _ (l .loop .lo) (l .loop .hi) (p .1) (v .0) near (omega (arith, c .before .cost-in2 .ensures .0, c .before .before .cost-in .ensures .0)),
       omega (arith, v .0 .inside, p .1 .length-most),
     )
 
@@ -120,13 +128,14 @@ nearest-in-spec =
     sub-n
     add-mid
     add-mid-2
-    cost-in-requires
+    entry-in-requires
+    add-m
     loop-less
     loop-again
     loop-less-2
     loop-again-2
+    cost-in-requires
     cost-in-requires-2
-    cost-in-requires-3
     mul-if2
     add-if2
     returns
