@@ -21,7 +21,7 @@ use Rattle.celt_answer.specs.Allocation.{saidRead, saidWrote, saidAllRead, said
 
 -- ---- numbers that are handed on
 
-abbrev back : ℤ → ℤ
+abbrev pub back : ℤ → ℤ
 back z = toZ w32 (ofZ w32 z)
 
 pub numbers-back : {c lm start end trim total : ℤ} → SFits w32 c → SFits w32 lm → SFits w32 start → SFits w32 end → SFits w32 trim

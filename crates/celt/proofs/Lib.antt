@@ -1,2 +1,5 @@
 pub mod Joined
 pub mod Bands
+pub mod Floats
+pub mod Written
+pub mod Framing

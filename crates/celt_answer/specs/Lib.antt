@@ -6,3 +6,7 @@ pub mod Lap
 pub mod Pulses
 pub mod Lookups
 pub mod Allocation
+pub mod Energies
+pub mod Shapes
+pub mod Record
+pub mod Requests

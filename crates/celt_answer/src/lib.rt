@@ -2,6 +2,10 @@
 pub mod allocation;
 pub mod dec;
 pub mod enc;
+pub mod energies;
 pub mod lap;
 pub mod lookups;
 pub mod pulses;
+pub mod record;
+pub mod requests;
+pub mod shapes;

@@ -1,3 +1,4 @@
 pub mod Numbers
 pub mod Lists
+pub mod Firsts
 pub mod Back

@@ -1,2 +1,3 @@
--- A coder's state as a list of twelve numbers.
+-- A coder's state as a list of twelve numbers, and a stream's record as a list of energies and one of its next number.
 pub mod State
+pub mod Record

@@ -1,7 +1,8 @@
 // From a list of twelve numbers to a state.
 ghost use mathlib.Core.Path.{_≡_};
+ghost use mathlib.Core.Bool.{true, false};
 ghost use Prim.Native.Nat.{_<_};
-ghost use lib.ListN.{length};
+ghost use lib.ListN.{length, take};
 ghost use Rattle.laws.specs.Lists.{every};
 ghost use Rattle.celt_state.specs.State.{
   isCount,
@@ -9,7 +10,6 @@ ghost use Rattle.celt_state.specs.State.{
   markOf,
   heldOf,
   heldFits,
-  rangeOf,
   entry,
   readerFits,
   writerFits,
@@ -27,22 +27,42 @@ fn is_count(x: i64) -> bool
     (0 <= x) & (x <= 4294967295)
 }
 
-// Whether every number fits a count.
-fn all_counts(l: &[i64]) -> bool
-    ensures { λ r. ⌜ r ≡ every isCount (now (l .entry)) ⌝ }
+// Whether the number at a place fits a count.
+fn fits_at(state: &[i64], i: usize) -> bool
+    requires { ⌜ i < length (now state) ⌝ }
+    ensures { λ r. ⌜ r ≡ isCount (entry (now (state .entry)) i) ⌝ }
 {
-    let mut i: usize = 0;
-    while i < l.len() {
-        let x = l[i];
-        if !is_count(x) {
-            return false;
-        }
-        i += 1;
-    }
-    true
+    let x = state[i];
+    is_count(x)
 }
 
-// The number at a place as a count.
+// Whether the first nine numbers fit. The tests are joined without a branch: every call of another language comes through here.
+fn nine_fit(state: &[i64]) -> bool
+    requires { ⌜ length (now state) ≡ 12 ⌝ }
+    ensures { λ r. ⌜ r ≡ every isCount (take 9 (now (state .entry))) ⌝ }
+{
+    fits_at(state, 0)
+        & fits_at(state, 1)
+        & fits_at(state, 2)
+        & fits_at(state, 3)
+        & fits_at(state, 4)
+        & fits_at(state, 5)
+        & fits_at(state, 6)
+        & fits_at(state, 7)
+        & fits_at(state, 8)
+}
+
+// A number that fits, at a place, as a count.
+fn fit_at(state: &[i64], i: usize) -> u32
+    requires { ⌜ i < length (now state) ⌝ }
+    requires { ⌜ isCount (entry (now state) i) ≡ true ⌝ }
+    ensures { λ r. ⌜ r ≡ countOf (entry (now (state .entry)) i) ⌝ }
+{
+    let x = state[i];
+    x as u32
+}
+
+// Any number, at a place, as a count.
 fn count_at(state: &[i64], i: usize) -> u32
     requires { ⌜ i < length (now state) ⌝ }
     ensures { λ r. ⌜ r ≡ countOf (entry (now (state .entry)) i) ⌝ }
@@ -58,14 +78,6 @@ fn mark_at(state: &[i64], i: usize) -> bool
 {
     let x = state[i];
     (x < 0) | (0 < x)
-}
-
-// The range, 0 where the numbers do not fit.
-fn range_at(state: &[i64], fits: bool) -> u32
-    requires { ⌜ length (now state) ≡ 12 ⌝ }
-    ensures { λ r. ⌜ r ≡ rangeOf fits (entry (now (state .entry)) 6) ⌝ }
-{
-    if fits { count_at(state, 6) } else { 0 }
 }
 
 // Whether the number of a writer's held byte is one.
@@ -91,7 +103,7 @@ fn reader_fits(state: &[i64]) -> bool
     requires { ⌜ length (now state) ≡ 12 ⌝ }
     ensures { λ r. ⌜ r ≡ readerFits (now (state .entry)) ⌝ }
 {
-    all_counts(&state[..10])
+    nine_fit(state) & fits_at(state, 9)
 }
 
 // Whether the numbers of a writer fit.
@@ -99,15 +111,36 @@ fn writer_fits(state: &[i64]) -> bool
     requires { ⌜ length (now state) ≡ 12 ⌝ }
     ensures { λ r. ⌜ r ≡ writerFits (now (state .entry)) ⌝ }
 {
-    all_counts(&state[..9]) & held_fits(state)
+    nine_fit(state) & held_fits(state)
 }
 
-// The reader that a list holds.
-pub fn load_reader(state: &[i64]) -> Reader
+// A reader whose numbers fit.
+fn sound_reader(state: &[i64]) -> Reader
     requires { ⌜ length (now state) ≡ 12 ⌝ }
+    requires { ⌜ readerFits (now state) ≡ true ⌝ }
     ensures { λ r. ⌜ r ≡ readerOf (now (state .entry)) ⌝ }
 {
-    let fits = reader_fits(state);
+    Reader {
+        storage: fit_at(state, 0),
+        offs: fit_at(state, 5),
+        ends: fit_at(state, 1),
+        window: fit_at(state, 2),
+        waiting: fit_at(state, 3),
+        total: fit_at(state, 4),
+        rng: fit_at(state, 6),
+        val: fit_at(state, 7),
+        ext: fit_at(state, 8),
+        rem: fit_at(state, 9),
+        error: mark_at(state, 10),
+    }
+}
+
+// A reader with a number that does not fit: its range is 0.
+fn damaged_reader(state: &[i64]) -> Reader
+    requires { ⌜ length (now state) ≡ 12 ⌝ }
+    requires { ⌜ readerFits (now state) ≡ false ⌝ }
+    ensures { λ r. ⌜ r ≡ readerOf (now (state .entry)) ⌝ }
+{
     Reader {
         storage: count_at(state, 0),
         offs: count_at(state, 5),
@@ -115,7 +148,7 @@ pub fn load_reader(state: &[i64]) -> Reader
         window: count_at(state, 2),
         waiting: count_at(state, 3),
         total: count_at(state, 4),
-        rng: range_at(state, fits),
+        rng: 0,
         val: count_at(state, 7),
         ext: count_at(state, 8),
         rem: count_at(state, 9),
@@ -123,12 +156,48 @@ pub fn load_reader(state: &[i64]) -> Reader
     }
 }
 
-// The writer that a list holds.
-pub fn load_writer(state: &[i64]) -> Writer
+// The reader that a list holds.
+pub fn load_reader(state: &[i64]) -> Reader
     requires { ⌜ length (now state) ≡ 12 ⌝ }
+    ensures { λ r. ⌜ r ≡ readerOf (now (state .entry)) ⌝ }
+{
+    if reader_fits(state) {
+        return sound_reader(state);
+    }
+    damaged_reader(state)
+}
+
+// A writer whose numbers fit.
+fn sound_writer(state: &[i64]) -> Writer
+    requires { ⌜ length (now state) ≡ 12 ⌝ }
+    requires { ⌜ writerFits (now state) ≡ true ⌝ }
     ensures { λ r. ⌜ r ≡ writerOf (now (state .entry)) ⌝ }
 {
-    let fits = writer_fits(state);
+    let sink = Sink {
+        storage: fit_at(state, 0),
+        offs: fit_at(state, 5),
+        ends: fit_at(state, 1),
+        error: mark_at(state, 10),
+    };
+    Writer {
+        sink,
+        rem: held_at(state),
+        ext: fit_at(state, 8),
+        val: fit_at(state, 7),
+        rng: fit_at(state, 6),
+        total: fit_at(state, 4),
+        window: fit_at(state, 2),
+        waiting: fit_at(state, 3),
+        closed: mark_at(state, 11),
+    }
+}
+
+// A writer with a number that does not fit: its range is 0.
+fn damaged_writer(state: &[i64]) -> Writer
+    requires { ⌜ length (now state) ≡ 12 ⌝ }
+    requires { ⌜ writerFits (now state) ≡ false ⌝ }
+    ensures { λ r. ⌜ r ≡ writerOf (now (state .entry)) ⌝ }
+{
     let sink = Sink {
         storage: count_at(state, 0),
         offs: count_at(state, 5),
@@ -140,10 +209,21 @@ pub fn load_writer(state: &[i64]) -> Writer
         rem: held_at(state),
         ext: count_at(state, 8),
         val: count_at(state, 7),
-        rng: range_at(state, fits),
+        rng: 0,
         total: count_at(state, 4),
         window: count_at(state, 2),
         waiting: count_at(state, 3),
         closed: mark_at(state, 11),
     }
+}
+
+// The writer that a list holds.
+pub fn load_writer(state: &[i64]) -> Writer
+    requires { ⌜ length (now state) ≡ 12 ⌝ }
+    ensures { λ r. ⌜ r ≡ writerOf (now (state .entry)) ⌝ }
+{
+    if writer_fits(state) {
+        return sound_writer(state);
+    }
+    damaged_writer(state)
 }

@@ -1,5 +1,5 @@
--- `celt_state::load::load_writer`: number by number. Assumes nothing.
-use Rattle.celt_state.specs.State.{writerOf}
+-- `celt_state::load::load_writer`: by whether the numbers fit. Assumes nothing.
+use mathlib.Core.Path.{_≡_, sym, _∙_}
 use borrow.Author.Needs.{needs}
 use Rattle.celt_state.proofs.load.load_writer.Statement.{statement}
 use Rattle.celt_state.proofs.load.load_writer.Tie as tie
@@ -7,76 +7,24 @@ use Rattle.celt_state.proofs.load.load_writer.Tie as tie
 writer-fits-requires : tie.Need-writer-fits-requires
 writer-fits-requires c κs = search needs
 
-count-at-requires : tie.Need-count-at-requires
-count-at-requires c κs = search needs
-
-count-at-requires-2 : tie.Need-count-at-requires-2
-count-at-requires-2 c κs = search needs
-
-count-at-requires-3 : tie.Need-count-at-requires-3
-count-at-requires-3 c κs = search needs
-
-mark-at-requires : tie.Need-mark-at-requires
-mark-at-requires c κs = search needs
-
-held-at-requires : tie.Need-held-at-requires
-held-at-requires c κs = search needs
-
-count-at-requires-4 : tie.Need-count-at-requires-4
-count-at-requires-4 c κs = search needs
-
-count-at-requires-5 : tie.Need-count-at-requires-5
-count-at-requires-5 c κs = search needs
-
-range-at-requires : tie.Need-range-at-requires
-range-at-requires c κs = search needs
-
-count-at-requires-6 : tie.Need-count-at-requires-6
-count-at-requires-6 c κs = search needs
-
-count-at-requires-7 : tie.Need-count-at-requires-7
-count-at-requires-7 c κs = search needs
-
-count-at-requires-8 : tie.Need-count-at-requires-8
-count-at-requires-8 c κs = search needs
-
-mark-at-requires-2 : tie.Need-mark-at-requires-2
-mark-at-requires-2 c κs = search needs
+sound-writer-requires : tie.Need-sound-writer-requires
+sound-writer-requires c κs = (c .before .before .pre, sym (c .before .writer-fits .ensures) ∙ c .if1 .taken)
 
 returns : tie.Need-returns
-unfolding writerOf
-returns c =
-    rw (
-      c .before .before .before .before .before .before .before .before .before .before .before .count-at .ensures,
-      c .before .before .before .before .before .before .before .before .before .before .count-at2 .ensures,
-      c .before .before .before .before .before .before .before .before .before .count-at3 .ensures,
-      c .before .before .before .before .before .before .before .before .mark-at .ensures,
-      c .before .before .before .before .before .before .before .held-at .ensures,
-      c .before .before .before .before .before .before .count-at4 .ensures,
-      c .before .before .before .before .before .count-at5 .ensures,
-      c .before .before .before .before .range-at .ensures,
-      c .before .before .before .before .before .before .before .before .before .before .before .before .writer-fits .ensures,
-      c .before .before .before .count-at6 .ensures,
-      c .before .before .count-at7 .ensures,
-      c .before .count-at8 .ensures,
-      c .mark-at2 .ensures,
-    )
+returns c = search needs
+
+damaged-writer-requires : tie.Need-damaged-writer-requires
+damaged-writer-requires c κs = (c .before .before .pre, sym (c .before .writer-fits .ensures) ∙ c .if1 .left)
+
+returns-2 : tie.Need-returns-2
+returns-2 c = search needs
 
 pub load-writer-spec : {M : Type 1} → statement M
 load-writer-spec =
     tie.close
     (tie.spec
     writer-fits-requires
-    count-at-requires
-    count-at-requires-2
-    count-at-requires-3
-    mark-at-requires
-    held-at-requires
-    count-at-requires-4
-    count-at-requires-5
-    range-at-requires
-    count-at-requires-6
-    count-at-requires-7
-    count-at-requires-8
-    mark-at-requires-2
-    returns)
+    sound-writer-requires
+    returns
+    damaged-writer-requires
+    returns-2)

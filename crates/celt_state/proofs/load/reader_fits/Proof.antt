@@ -1,18 +1,28 @@
--- `celt_state::load::reader_fits`: the first ten numbers. Assumes nothing.
+-- `celt_state::load::reader_fits`: the first nine numbers, and the tenth. Assumes nothing.
+use mathlib.Core.Path.{sym}
 use native.Mathlib.Omega.{arith}
-use lib.ListN.{length-take}
+use lib.IntN.{pos}
+use Rattle.celt_state.specs.State.{isCount}
+use Rattle.celt_state.proofs.Firsts.{every-last}
 use borrow.Author.Needs.{needs}
 use Rattle.celt_state.proofs.load.reader_fits.Statement.{statement}
 use Rattle.celt_state.proofs.load.reader_fits.Tie as tie
 
-slice-aggregate-all-counts : tie.Need-slice-aggregate-all-counts
-slice-aggregate-all-counts c = rw (length-take 10 (c .before .args .state .now)) (omega (arith, c .before .pre))
+nine-fit-requires : tie.Need-nine-fit-requires
+nine-fit-requires c κs = search needs
 
-all-counts-requires : tie.Need-all-counts-requires
-all-counts-requires c κs = search needs
+fits-at-requires : tie.Need-fits-at-requires
+fits-at-requires c κs = search needs
 
 returns : tie.Need-returns
-returns c = search needs
+returns c =
+    let p = c .before .before in
+    rw (c .before .nine-fit .ensures, c .fits-at .ensures) (sym (every-last isCount (pos 0) 9 (p .args .state .now) (omega (arith, p .pre))))
 
 pub reader-fits-spec : {M : Type 1} → statement M
-reader-fits-spec = tie.close (tie.spec slice-aggregate-all-counts all-counts-requires returns)
+reader-fits-spec =
+    tie.close
+    (tie.spec
+    nine-fit-requires
+    fits-at-requires
+    returns)

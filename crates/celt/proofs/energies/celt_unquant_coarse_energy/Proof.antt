@@ -1,0 +1,48 @@
+-- `celt_unquant_coarse_energy`: the lengths, the call, and what is left of it. Assumes nothing.
+use borrow.Author.Tests.{eq-eqb, ne-eqb}
+use Rattle.celt_answer.proofs.Exports.{wrong-lengths, right-lengths}
+use Rattle.celt.proofs.Floats.{coarse-left}
+use Rattle.celt.proofs.energies.celt_unquant_coarse_energy.Statement.{statement}
+use Rattle.celt.proofs.energies.celt_unquant_coarse_energy.Tie as tie
+
+load-reader-requires : tie.Need-load-reader-requires
+load-reader-requires c κs = c .before .if1 .taken
+
+unquant-coarse-energy-requires : tie.Need-unquant-coarse-energy-requires
+unquant-coarse-energy-requires c κs = tt
+
+leave-energies-requires : tie.Need-leave-energies-requires
+leave-energies-requires c κs = c .before .before .before .before .before .before .before .if1 .taken
+
+same-length : tie.Need-same-length
+same-length c = c .before .leave-energies .kept .1 .0
+
+same-length-2 : tie.Need-same-length-2
+same-length-2 c = c .before .before .before .before .before .unquant-coarse-energy .kept .1 .1 .0
+
+returns : tie.Need-returns
+returns c =
+    let g = c .before in
+    let k = g .before .before .before .before in
+    let d = k .before .before in
+    let t = d .before .before in
+    let p = t .before .before .before in
+    let a = p .args in
+    let f = p .fits in
+    right-lengths _ _ (eq-eqb _ _ (t .if1 .taken))
+    (coarse-left (a .state .now) (a .s .now) (a .energies .now) (f .c) (f .lm) (f .start) (f .end) (f .intra) (d .load-reader .ensures) (k .unquant-coarse-energy .ensures) (g .leave-energies .ensures))
+
+returns-2 : tie.Need-returns-2
+returns-2 c = wrong-lengths _ _ (ne-eqb _ _ (c .if1 .left))
+
+pub celt-unquant-coarse-energy-spec : {M : Type 1} → statement M
+celt-unquant-coarse-energy-spec =
+    tie.close
+    (tie.spec
+    load-reader-requires
+    unquant-coarse-energy-requires
+    leave-energies-requires
+    same-length
+    same-length-2
+    returns
+    returns-2)

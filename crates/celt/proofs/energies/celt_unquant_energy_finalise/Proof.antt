@@ -1,0 +1,48 @@
+-- `celt_unquant_energy_finalise`: the lengths, the call, and what is left of it. Assumes nothing.
+use borrow.Author.Tests.{eq-eqb, ne-eqb}
+use Rattle.celt_answer.proofs.Exports.{wrong-lengths, right-lengths}
+use Rattle.celt.proofs.Floats.{finalise-left}
+use Rattle.celt.proofs.energies.celt_unquant_energy_finalise.Statement.{statement}
+use Rattle.celt.proofs.energies.celt_unquant_energy_finalise.Tie as tie
+
+load-reader-requires : tie.Need-load-reader-requires
+load-reader-requires c κs = c .before .if1 .taken
+
+unquant-energy-finalise-requires : tie.Need-unquant-energy-finalise-requires
+unquant-energy-finalise-requires c κs = tt
+
+leave-energies-requires : tie.Need-leave-energies-requires
+leave-energies-requires c κs = c .before .before .before .before .before .before .before .if1 .taken
+
+same-length : tie.Need-same-length
+same-length c = c .before .leave-energies .kept .1 .0
+
+same-length-2 : tie.Need-same-length-2
+same-length-2 c = c .before .before .before .before .before .unquant-energy-finalise .kept .1 .1 .0
+
+returns : tie.Need-returns
+returns c =
+    let g = c .before in
+    let k = g .before .before .before .before in
+    let d = k .before .before in
+    let t = d .before .before in
+    let p = t .before .before .before in
+    let a = p .args in
+    let f = p .fits in
+    right-lengths _ _ (eq-eqb _ _ (t .if1 .taken))
+    (finalise-left (a .state .now) (a .fine .now) (a .priorities .now) (a .s .now) (a .energies .now) (f .c) (f .start) (f .end) (f .left) (d .load-reader .ensures) (k .unquant-energy-finalise .ensures) (g .leave-energies .ensures))
+
+returns-2 : tie.Need-returns-2
+returns-2 c = wrong-lengths _ _ (ne-eqb _ _ (c .if1 .left))
+
+pub celt-unquant-energy-finalise-spec : {M : Type 1} → statement M
+celt-unquant-energy-finalise-spec =
+    tie.close
+    (tie.spec
+    load-reader-requires
+    unquant-energy-finalise-requires
+    leave-energies-requires
+    same-length
+    same-length-2
+    returns
+    returns-2)

@@ -1,0 +1,45 @@
+-- `celt_record_fresh`: the lengths, and a fresh record into its lists. Assumes nothing.
+use mathlib.Core.Path.{refl, ap, _∙_}
+use lib.ListN.{length}
+use Rattle.stream.specs.Frame.{fresh}
+use Rattle.celt_state.specs.Record.{listsOf}
+use Rattle.celt_answer.proofs.Coded.{coded}
+use Rattle.celt_answer.proofs.Exports.{Both, both, wrong-lengths, right-lengths}
+use Rattle.celt.proofs.record.celt_record_fresh.Statement.{statement}
+use Rattle.celt.proofs.record.celt_record_fresh.Tie as tie
+
+lengths : (c : tie.Then1) → let a = c .before .before .before .args in Both (length (a .energies .now)) 42 (length (a .next .now)) 1
+lengths c = both _ _ _ _ (c .if1 .taken)
+
+fresh-requires : tie.Need-fresh-requires
+fresh-requires c κs = tt
+
+store-record-requires : tie.Need-store-record-requires
+store-record-requires c κs =
+    let l = lengths (c .before .before .before) in
+    (l .one, l .two)
+
+same-length : tie.Need-same-length
+same-length c = c .before .before .before .before .store-record .kept .0
+
+same-length-2 : tie.Need-same-length-2
+same-length-2 c = c .before .before .before .before .store-record .kept .1 .0
+
+returns : tie.Need-returns
+returns c =
+    right-lengths _ _ (c .before .before .before .before .before .before .before .before .if1 .taken)
+    (coded (listsOf fresh) _ {n = 0} refl (c .before .before .before .before .store-record .ensures ∙ ap listsOf (c .before .before .before .before .before .before .before .fresh .ensures)))
+
+returns-2 : tie.Need-returns-2
+returns-2 c = wrong-lengths _ _ (c .if1 .left)
+
+pub celt-record-fresh-spec : {M : Type 1} → statement M
+celt-record-fresh-spec =
+    tie.close
+    (tie.spec
+    fresh-requires
+    store-record-requires
+    same-length
+    same-length-2
+    returns
+    returns-2)

@@ -1,0 +1,57 @@
+-- `celt_alg_unquant`: the lengths, the call, and what is left of it. Assumes nothing.
+use lib.ListN.{length}
+use Rattle.celt.proofs.Floats.{shape-left}
+use Rattle.celt_answer.proofs.Exports.{Both, both, wrong-lengths, right-lengths}
+use Rattle.celt.proofs.shapes.celt_alg_unquant.Statement.{statement}
+use Rattle.celt.proofs.shapes.celt_alg_unquant.Tie as tie
+
+lengths : (c : tie.Then1) → let a = c .before .before .before .before .args in Both (length (a .state .now)) 12 (length (a .mask .now)) 1
+lengths c = both _ _ _ _ (c .if1 .taken)
+
+load-reader-requires : tie.Need-load-reader-requires
+load-reader-requires c κs = lengths (c .before) .one
+
+alg-unquant-requires : tie.Need-alg-unquant-requires
+alg-unquant-requires c κs = tt
+
+leave-shape-requires : tie.Need-leave-shape-requires
+leave-shape-requires c κs =
+    let l = lengths (c .before .before .before .before .before .before .before .before) in
+    (l .one, l .two)
+
+same-length : tie.Need-same-length
+same-length c = c .before .before .before .leave-shape .kept .1 .0
+
+same-length-2 : tie.Need-same-length-2
+same-length-2 c = c .before .before .before .before .before .before .before .before .alg-unquant .kept .1 .1 .0
+
+same-length-3 : tie.Need-same-length-3
+same-length-3 c = c .before .before .before .leave-shape .kept .1 .1 .0
+
+returns : tie.Need-returns
+returns c =
+    let g = c .before .before .before in
+    let k = g .before .before .before .before .before in
+    let d = k .before .before in
+    let t = d .before .before in
+    let p = t .before .before .before .before in
+    let a = p .args in
+    let f = p .fits in
+    right-lengths _ _ (t .if1 .taken)
+    (shape-left (a .state .now, a .mask .now) (a .s .now) (a .shape .now) (a .gain) (f .n) (f .k) (f .spread) (f .b) (d .load-reader .ensures) (k .alg-unquant .ensures) (g .leave-shape .ensures))
+
+returns-2 : tie.Need-returns-2
+returns-2 c = wrong-lengths _ _ (c .if1 .left)
+
+pub celt-alg-unquant-spec : {M : Type 1} → statement M
+celt-alg-unquant-spec =
+    tie.close
+    (tie.spec
+    load-reader-requires
+    alg-unquant-requires
+    leave-shape-requires
+    same-length
+    same-length-2
+    same-length-3
+    returns
+    returns-2)
