@@ -43,8 +43,11 @@ def lift(name, i):
 class Param:
     """A parameter that is passed on: a number, a bool, a `Reader`, a `&[T]` or a `&mut [T]`. j is the place of its lifetime in the signature."""
 
-    def __init__(self, name, kind, j=None):
+    def __init__(self, name, kind, j=None, alone=False):
         self.name, self.kind, self.j = name, kind, j
+        # its lifetime, and the number of that in the signature: by name, or where the parameters stand alone, of their tuples and from the first of them
+        self.life = None if j is None else f"(κs{at(j)})" if alone else lift("κ", j)
+        self.number = (lambda shift: f"(j + {j})") if alone else (lambda shift: j - shift)
         self.slice = kind.startswith("&")
         self.lent = kind.startswith("&mut")
         if self.slice:
@@ -63,6 +66,7 @@ class Param:
             else:
                 self.pre, self.den, self.mach = f"sint {WIDTH[kind]}", "ℤ", f"vint {WIDTH[kind]} (ofZ {WIDTH[kind]} {name})"
             self.vals = self.law_of("vals")
+            self.ty = "tyBool" if kind == "bool" else f"tyInt {WIDTH[kind]}"
 
     def law_of(self, what):
         word, _, width = self.pre.partition(" ")
@@ -74,8 +78,8 @@ class Param:
             return "N.the-row"
         if not self.slice:
             return self.kind
-        mir = f"(named {self.j - shift})" if named else "erased"
-        return f"{'Mut' if self.lent else 'Shr'}Slice {mir} {lift('κ', self.j)} {self.elem}"
+        mir = f"(named {self.number(shift)})" if named else "erased"
+        return f"{'Mut' if self.lent else 'Shr'}Slice {mir} {self.life} {self.elem}"
 
     def tells(self):
         if self.kind == "Reader":
@@ -92,7 +96,7 @@ class Param:
             word, _, width = self.pre.partition(" ")
             return f"{word}-lawful 𝓤 H A W {width}".strip() + f" .typed {self.name} _ is-{self.name} .0"
         mir = f"(named {self.j})" if named else "erased"
-        return f"{'mut' if self.lent else 'shr'}-slice-lawful 𝓤 H A W {mir} {lift('κ', self.j)} {self.elem} .typed {self.name} _ is-{self.name} .0"
+        return f"{'mut' if self.lent else 'shr'}-slice-lawful 𝓤 H A W {mir} {self.life} {self.elem} .typed {self.name} _ is-{self.name} .0"
 
     def copy(self):
         if self.kind == "Reader":
@@ -100,7 +104,7 @@ class Param:
         if not self.slice:
             word, _, width = self.pre.partition(" ")
             return f"{word}-copy 𝓤 H A W {width}".strip()
-        return f"shr-slice-copy 𝓤 H A W (named {self.j}) {lift('κ', self.j)} {self.elem}"
+        return f"shr-slice-copy 𝓤 H A W (named {self.j}) {self.life} {self.elem}"
 
     def stay(self):
         if not self.slice:
@@ -115,6 +119,10 @@ class Param:
         if self.lent:
             return f"goes-gave-slice 𝓤 H A W {nl} {self.j} tt (plain (λ _. {self.elem}))"
         return f"goes-none-slice 𝓤 H A W {nl} ({self.j} ∷ []) tt (plain (λ _. {self.elem})) yes"
+
+
+# what a file of lent lists has of its parameters: definitions, and laws
+PARTS, PARTINGS = ["vals", "Rest", "Kept", "Lists", "Finals", "Ends"], ["parted", "whole-again", "ended"]
 
 
 class Context:
@@ -150,15 +158,15 @@ class Context:
 
 
 class Params:
-    """The parameters that are passed on; first is the lifetime of the first slice."""
+    """The parameters that are passed on; first is the lifetime of the first slice. Where they stand alone they are the parts of a tuple y, and their lifetimes of κs."""
 
-    def __init__(self, pairs, first):
-        self.all, self.lifetimes = [], first
-        for name, kind in pairs:
+    def __init__(self, pairs, first, lists=None, alone=False):
+        self.all, self.first, self.lifetimes, self.lists = [], first, first, lists
+        for i, (name, kind) in enumerate(pairs):
             slot = None
             if kind.startswith("&"):
                 slot, self.lifetimes = self.lifetimes, self.lifetimes + 1
-            self.all.append(Param(name, kind, slot))
+            self.all.append(Param(f"(y{at(i)})" if alone else name, kind, slot, alone))
         self.lent = [p for p in self.all if p.lent]
         self.kept = [p for p in self.all if not p.lent]
 
@@ -169,21 +177,33 @@ class Params:
         return tup([f(p) for p in (self.all if of is None else of)])
 
     def block(self):
-        """their machine values, what they own, and how what the lent ones own is parted from the rest"""
-        vals = self.tuple(lambda p: f"{p.mach} ∷ []")
-        lines = [
+        """their machine values, and what they own"""
+        if self.lists:
+            slices = [p for p in self.all if p.slice]
+            return [
+                f"-- the other parameters, as proofs/{self.lists}.antt takes them",
+                f"abbrev κs : {product(['Lft'] * len(slices))}",
+                f"κs = {tup([p.life for p in slices])}",
+                "",
+                f"abbrev y : {product([p.den for p in self.all])}",
+                f"y = {self.tuple(lambda p: p.name)}",
+                "",
+            ]
+        return self.owned() + ["-- what those own that can be copied", "abbrev Kept : Fml", "Kept = Rest", ""]
+
+    def owned(self, pub=""):
+        return [
             "-- the other parameters: their machine values, and what they own",
-            f"abbrev vals : {product(['List Val'] * len(self.all))}",
-            f"vals = {vals}",
+            f"abbrev {pub}vals : {product(['List Val'] * len(self.all))}",
+            f"vals = {self.tuple(lambda p: f'{p.mach} ∷ []')}",
             "",
-            "abbrev Rest : Fml",
+            f"abbrev {pub}Rest : Fml",
             f"Rest = owns ({self.rows()}[]) {self.tuple(lambda p: p.name)} vals",
             "",
-            "-- what those own that can be copied",
-            "abbrev Kept : Fml",
         ]
-        if not self.lent:
-            return lines + ["Kept = Rest", ""]
+
+    def parts(self):
+        """how what the lent lists own is parted from the rest"""
         kept = f"owns ({self.rows(self.kept)}[]) {self.tuple(lambda p: p.name, self.kept)} {self.tuple(lambda p: f'{p.mach} ∷ []', self.kept)}"
         lists_ = f"owns ({self.rows(self.lent)}[]) {self.tuple(lambda p: p.name, self.lent)} {self.tuple(lambda p: f'{p.mach} ∷ []', self.lent)}"
         z = ["z" + SUB[i] for i in range(len(self.lent))]
@@ -204,29 +224,42 @@ class Params:
             c.take_apart(lists, self.lent)
             c.put_together(out, self.all)
         types, names = "".join(f"{p.list} → " for p in self.lent), " ".join(z)
-        return lines + [
+        definitions = self.owned("pub ") + [
+            "-- what those own that can be copied",
+            "abbrev pub Kept : Fml",
             f"Kept = {kept}",
             "",
             "-- what the lists own, what says their last entries, and that among what the others own",
-            "abbrev Lists : Fml",
+            "abbrev pub Lists : Fml",
             f"Lists = {lists_}",
             "",
-            f"abbrev Finals : {types}Fml",
+            f"abbrev pub Finals : {types}Fml",
             f"Finals {names} = {nest([last[p] for p in self.lent])}",
             "",
-            f"abbrev Ends : {types}Fml",
+            f"abbrev pub Ends : {types}Fml",
             f"Ends {names} = {nest([last[p] if p.lent else f'{p.row()} .own {p.name} ({p.mach} ∷ [])' for p in self.all])}",
             "",
-            "parted : ent 𝓤 (sem 𝓤 H A Rest) (sep 𝓤 (sem 𝓤 H A Kept) (sem 𝓤 H A Lists))",
+        ]
+        laws = [
+            "pub parted : ent 𝓤 (sem 𝓤 H A Rest) (sep 𝓤 (sem 𝓤 H A Kept) (sem 𝓤 H A Lists))",
             f"parted = qed W (‵ Rest ∷ []) ∵ {parted.text()} done !",
             "",
-            "whole-again : ent 𝓤 (sep 𝓤 (sem 𝓤 H A Kept) (sem 𝓤 H A Lists)) (sem 𝓤 H A Rest)",
+            "pub whole-again : ent 𝓤 (sep 𝓤 (sem 𝓤 H A Kept) (sem 𝓤 H A Lists)) (sem 𝓤 H A Rest)",
             f"whole-again = qed W (‵ Kept ∷ ‵ Lists ∷ []) ∵ {whole.text()} done !",
             "",
-            f"ended : {''.join(f'({a} : {p.list}) ' for a, p in zip(z, self.lent))}→ ent 𝓤 (sep 𝓤 (sem 𝓤 H A Kept) (sem 𝓤 H A (Finals {names}))) (sem 𝓤 H A (Ends {names}))",
+            f"pub ended : {''.join(f'({a} : {p.list}) ' for a, p in zip(z, self.lent))}→ ent 𝓤 (sep 𝓤 (sem 𝓤 H A Kept) (sem 𝓤 H A (Finals {names}))) (sem 𝓤 H A (Ends {names}))",
             f"ended {names} = qed W (‵ Kept ∷ ‵ (Finals {names}) ∷ []) ∵ {ended.text()} done !",
-            "",
         ]
+        return definitions, laws
+
+    def cited(self, text):
+        """the text of a walk, with the names that stand in the lists' file at this walk's parameters"""
+        if not self.lists:
+            return text
+        for names, more in ((PARTS, ""), (PARTINGS, " 𝓤 H A W")):
+            for n in names:
+                text = re.sub(r"(?<![\w.′-])" + n + r"(?![\w′-])", f"({n} {self.first} κs y{more})", text)
+        return text
 
     def twice(self):
         """[Rest; ..] becomes [Rest; Kept; ..]"""
@@ -267,7 +300,7 @@ def close(lines):
 
 def uses(body, own):
     """the `use` lines of the library that the body needs, then the crate's own"""
-    out = []
+    body, out = re.sub(r"(?m)^ *--.*$", "", body), []
     for line in open(os.path.join(HERE, "uses.txt")).read().split("\n"):
         m = re.match(r"use (\S+)\.\{(.*)\}$", line)
         if not m:
@@ -293,31 +326,58 @@ def key(crate, path):
 
 def own_uses(c, names, callees):
     """the crate's own modules: declared types, the callees and the function itself"""
-    crate, other = c["crate"], c.get("elsewhere", {})
+    crate, other, body = c["crate"], c.get("elsewhere", {}), c["_body"]
     spec = lambda x: f"Rattle.{other[x]}.specs." if x in other else f"Rattle.{crate}.specs."
     proof = lambda x: f"Rattle.{other[x]}.proofs." if x in other else f"Rattle.{crate}.proofs."
+    named = lambda x: re.search(r"(?<![\w′-])" + re.escape(x) + r"\.", body)
     out = list(c.get("uses", []))
     for letter, x in names:
         line = f"use {spec(x)}declared.{x}.{{{x}}}"
-        if line not in out and x in c["_body"]:
+        if line not in out and x in body:
             out.append(line)
     for letter, x in names:
-        out += [f"use {proof(x)}{x} as {letter}", f"use {proof(x)}{x}.Laws as {letter}′"]
+        out += [f"use {proof(x)}{x}{below} as {letter}{mark}" for below, mark in (("", ""), (".Laws", "′")) if named(letter + mark)]
     me = f"Rattle.{crate}.proofs."
     for letter, g in callees:
         m = me + g.replace("/", ".")
-        out += [f"use {m} as {letter}", f"use {m}.Symbol as {letter}-def", f"use {m}.Symbol.{{name as {key(crate, g)}}}", f"use {m}.Met as {letter}-thm"]
+        out += [f"use {m}{below} as {letter}{mark}" for below, mark in (("", ""), (".Symbol", "-def")) if named(letter + mark)]
+        out += [f"use {m}.Symbol.{{name as {key(crate, g)}}}"] if key(crate, g) in body else []
+        out += [f"use {m}.Met as {letter}-thm"] if named(letter + "-thm") else []
+    if "fn" not in c:
+        return out
     m = me + c["fn"].replace("/", ".")
-    return out + [f"use {m}.Key.{{name as {key(crate, c['fn'])}}}", f"use {m} as f", f"use {m}.Statement as stated", f"use {m}.Code as code"]
+    out += [f"use {m}.Key.{{name as {key(crate, c['fn'])}}}"] if key(crate, c["fn"]) in body else []
+    return out + [f"use {m}{below} as {name}" for below, name in (("", "f"), (".Statement", "stated"), (".Code", "code")) if named(name)]
+
+
+# what the walks take from the crate's own files of lemmas
+SHARED = {
+    "Closing": ["asks-no-more", "met-by", "told"],
+    "Holding": "num-val pair-val packet-val Packet holding hidden δ α R D L mach Own is-holding is-num-of makes-holding both-of with-numbers comes-back packet-too".split(),
+    "Lent": ["Lent", "lends-local"],
+    "OneNumber": ["Reading", "by-value", "on-held"],
+}
+
+# what the text of a shared walk names beside a walk's own
+MIR = [
+    "use mir.Syntax.{Fn, tyInt, local, valueLocal, memorySlot, place, deref, field, copy, rvOpd, addrOf, aggregate, assign, call, seq, return}",
+    "use prog.Model.{Model}",
+    "use prog.Routine.{Name, Env}",
+    "use prog.Wp.{Closed}",
+    "use contract.Running.{GhostRules, Running}",
+    "use denote.Memory.{lone}",
+    "use denote.Triple.Clauses.{closing}",
+]
 
 
 def finish(text, c, names, callees):
     head, rest = text.split("@@uses@@", 1)
+    c = dict(c)
     c["_body"] = rest
     return head + uses(rest, own_uses(c, names, callees)) + rest
 
 
-def common(c, ps, nl, extra=()):
+def common(c, ps, nl):
     """holes that every template has"""
     κ, q = [lift("κ", i) for i in range(nl)], [lift("q", i) for i in range(nl)]
     lent = ps.lent
@@ -395,11 +455,78 @@ def passed_on(ps, place, first, temps):
     return [place(temps + 2 * ps.lent.index(p) + 1) if p.lent else place(first + i) for i, p in enumerate(ps.all)]
 
 
+def whose(c, says, called):
+    """the holes that differ where the walk is one function's, and where it is shared by those that differ in the read F and in the callee g"""
+    if c.get("shared"):
+        return {
+            "head": "-- " + c["about"] + " Written by tools/walks. Assumes `Given`.",
+            "contract": "-- the contract that the proof cites\n"
+            "abbrev pub Callee : {M : Type 1} (𝓤 : URA M) (H : Heap 𝓤) (A : Atoms 𝓤) → Reading → Contract 𝓤\n"
+            f"Callee 𝓤 H A F = tripleOf 𝓤 H A g.signature (closing 𝓤 H A g.ended ({called} 𝓤 F))",
+            "of": "(F : Reading) (k : Name)",
+            "Callee": "Callee 𝓤 H A F",
+            "fc": f"({says} 𝓤 F)",
+            "gc": f"({called} 𝓤 F)",
+            "says": says,
+            "code": "(calling k)",
+            "gkey": "k",
+            "result": c["found"],
+        }
+    name, callee = c["crate"] + "::" + c["fn"].replace("/", "::"), c["over"].replace("/", "::")
+    return {
+        "head": fill("head-" + c["walk"], {"name": name, "callee": callee}).rstrip("\n"),
+        "contract": "-- the contract that the proof cites\n"
+        "abbrev Callee : {M : Type 1} (𝓤 : URA M) (H : Heap 𝓤) (A : Atoms 𝓤) (mem : Memory → SProp 𝓤) (run : Routine → Fun 𝓤) → Contract 𝓤\n"
+        "Callee 𝓤 H A mem run = tripleOf 𝓤 H A g.signature (g.spec 𝓤 H A mem run)",
+        "of": "(at-mem : Memory → SProp 𝓤) (run : Routine → Fun 𝓤)",
+        "Callee": "Callee 𝓤 H A at-mem run",
+        "fc": "(f.clauses 𝓤 H A at-mem run)",
+        "gc": "(g.clauses 𝓤 H A at-mem run)",
+        "code": "code.function",
+        "gkey": key(c["crate"], c["over"]),
+        "result": c["found"],
+    }
+
+
+def cells(types):
+    """the locals of these types; one that is marked stands in memory"""
+    return "".join(f"\n      local ({t.lstrip('*')}) {'memorySlot' if t[0] == '*' else 'valueLocal'} ∷" for t in types)
+
+
+def copies(places):
+    """the operands that stand there"""
+    return "".join(f"copy (place {i} []) ∷ " for i in places) + "[]"
+
+
+def steps(*bodies):
+    """the statements in a row, and the return"""
+    return "".join(f"\n      seq ({b}) (" for b in bodies)[:-1] + "return" + ")" * (len(bodies) - 1)
+
+
+def written(template, c, h, ps=None, names=None):
+    """the file of a walk over a reader"""
+    names = names or [("T", "EcDec"), ("S", c["step"]), ("N", "Reader"), ("B", c["answer"])]
+    if c.get("shared"):
+        h["contract"] += "\n\n" + fill("mir", h).rstrip("\n")
+    h["tail"] = fill("one" if c.get("shared") else "closed", h)
+    own = f"use Rattle.{c['crate']}.proofs."
+    body = ps.cited(fill(template, h)) if ps else fill(template, h)
+    word = lambda q: re.search(r"(?<![\w′·-])" + re.escape(q) + r"(?![\w′·-])", body)
+    lists = {ps.lists: PARTS + PARTINGS} if ps and ps.lists else {}
+    for module, lemmas in dict(SHARED, **lists).items():
+        taken = [n for n in lemmas if word(n)]
+        c = dict(c, uses=c["uses"] + ([f"{own}{module}.{{{', '.join(taken)}}}"] if taken else []))
+    if c.get("shared"):
+        c["uses"] = MIR + c["uses"]
+    return finish(body, c, names, [("g", c["over"])])
+
+
 def lent(c):
     """fn f(d: &mut EcDec, ..) -> Answer { let out = g(d.num, d.buf, ..); d.num = out.next; out.answer }"""
-    ps = Params(c["params"], 2)
+    ps = Params(c["params"], 2, c.get("lists"))
     nl, m, m2 = ps.lifetimes, len(ps.all), len(ps.lent)
     h = common(c, ps, nl)
+    h.update(whose(c, "on-held", "by-value"))
     κ, q = [lift("κ", i) for i in range(nl)], [lift("q", i) for i in range(nl)]
     K1, Q1 = tup(κ[1:]), tup(q[1:])
     TK = "(" + "".join(f"‵ (flft {a} {b}) ⊛ " for a, b in zip(κ[1:], q[1:])) + "‵ ftrue)"
@@ -412,41 +539,35 @@ def lent(c):
     said_z = said
     for i in range(m2):
         said_z = said_z.replace("z" + SUB[i], zs[i])
-    found = [f"abbrev found : {c['found_type'] if m2 else c['step']}", f"found = {c['found']}", ""]
-    if not m2:
-        found += [
-            f"said : (r : {c['step']}) → ent 𝓤 (ensured 𝓤 H A g.ended (g.clauses 𝓤 H A at-mem run) {K1} {GA} tt r) (fact 𝓤 (r ≡ found))",
-            f"said r = exE 𝓤 _ (λ ws. snd∗ 𝓤 (sem 𝓤 H A (lasts g.ended {K1} {GA} ws)) (fact 𝓤 (r ≡ found)))",
-            "",
-        ]
+    found = [f"abbrev found : {c['found_type'] if m2 else c['step']}", f"found = {h['result']}", ""]
     w, y = [], lambda *l: w.extend(l)
     p = place(0)
     y(
-        f"qed W ((‵ (flft κ q) ⊛ {TK[1:-1]}) ∷ ‵ (owns (MutRef (named 0) κ R ∷ {h['rows']}[]) x (vptr b o ∷ [], vals)) ∷ []) ∵ enter ! C Λ code.function (vptr b o ∷ {h['machs']}[]) _ $",
+        f"qed W ((‵ (flft κ q) ⊛ {TK[1:-1]}) ∷ ‵ (owns (MutRef (named 0) κ (R 1 κ₁) ∷ {h['rows']}[]) x (vptr b o ∷ [], vals)) ∷ []) ∵ enter ! C Λ {h['code']} (vptr b o ∷ {h['machs']}[]) _ $",
         "".join(f"alloc1 ! (λ l{i}. " for i in range(n))
         + f"alloc0 ! $ params1 ! $ pass1 ! (init ! {p(1)} refl (tt, tt)) $ "
         + "".join(f"pass1 ! (init ! {p(2 + i)} refl ({a.typed()})) $ " for i, a in enumerate(ps.all))
         + "pass0 ! $",
         "-- the borrow is opened",
         f"move ! ({2 * n + 1} ∷ []) $ fsplit ! $ fsplit3 ! $ drop ! $ move ! ({2 * n + 3} ∷ []) $ split ! $ move ! (2 ∷ 3 ∷ 0 ∷ []) $",
-        "opens ! tt R {h = h} b o (λ vs. spelt ! R (Is R) (shows 𝓤 H A R) (LL.vals D L) (LL.tells D L) fullShare h vs b o $",
-        "use1 W (‵ (fat fullShare (T′.mir erased) b o (mach h))) (W .laws .raw-at fullShare (T′.mir erased) b o (mach h)) $",
-        "move ! (1 ∷ []) $ peeks ! R (Is R) (shows 𝓤 H A R) h (mach h ∷ []) (λ was. move ! (1 ∷ 0 ∷ []) $",
+        "opens ! tt (R 1 κ₁) {h = h} b o (λ vs. spelt ! (R 1 κ₁) (Is (R 1 κ₁)) (shows 𝓤 H A (R 1 κ₁)) (LL.vals (D 1 κ₁) (L 1 κ₁)) (LL.tells (D 1 κ₁) (L 1 κ₁)) fullShare h vs b o $",
+        "use1 W (‵ (fat fullShare δ b o (mach 1 κ₁ h))) (W .laws .raw-at fullShare δ b o (mach 1 κ₁ h)) $",
+        "move ! (1 ∷ []) $ peeks ! (R 1 κ₁) (Is (R 1 κ₁)) (shows 𝓤 H A (R 1 κ₁)) h (mach 1 κ₁ h ∷ []) (λ was. move ! (1 ∷ 0 ∷ []) $",
         f"-- [the reader's cell; what it owns; the open borrow; obs; auth; the tokens; the others'; _{n - 1}; …; _1; …; room for _0; …]",
     )
     p = place(7)
-    wt = "LL.lawful (T.the-type αᵉ) (T′.the-laws αᵉ) 𝓤 H A W .typed h _ was .0 .1"
+    wt = "LL.lawful (T.the-type (hidden κ₁)) (T′.the-laws (hidden κ₁)) 𝓤 H A W .typed h _ was .0 .1"
     y(
         f"assigns ! (of-opd ! (load ! (from ! (hop ! (look ! {p(1)} refl) (fld ! refl (stop !)))) (look-in ! 0 (sub ! 1 refl (whole !))))) (from ! (stop !)) (init ! {p(m + 3)} refl (tt, {wt} .1 .0)) $",
         f"assigns ! (of-opd ! (load ! (from ! (hop ! (look ! {p(1)} refl) (fld ! refl (stop !)))) (look-in ! 0 (sub ! 0 refl (whole !))))) (from ! (stop !)) (init ! {p(m + 4)} refl (tt, {wt} .0)) $",
         *reborrow(ps, p, m + 5, 2),
         "-- the call",
-        "move ! (1 ∷ 6 ∷ 5 ∷ []) $ use3 W (raw (Callee 𝓤 H A at-mem run .pre to) ⊛ ‵ Own ⊛ ‵ Kept) apart $ split3 ! $",
+        f"move ! (1 ∷ 6 ∷ 5 ∷ []) $ use3 W (raw ({h['Callee']} .pre to) ⊛ ‵ (Own 1 κ₁ h) ⊛ ‵ Kept) apart $ split3 ! $",
     )
     ops = [p(m + 3), p(m + 4)] + passed_on(ps, p, 2, m + 5)
     y(
-        f"calls-at ! fm (Callee 𝓤 H A at-mem run) known to {operands(ops)} (λ u.",
-        f"use1 W (later (some (λ (r : {c['step']}). ({TK} ⊛ ‵ (S.the-row .own r (u ∷ []))) ⊛ raw (ensured 𝓤 H A g.ended (g.clauses 𝓤 H A at-mem run) {K1} {GA} tt r)))) (id⊢ 𝓤 _) $ await ! tt $ pick ! (λ r.",
+        f"calls-at ! fm ({h['Callee']}) known to {operands(ops)} (λ u.",
+        f"use1 W (later (some (λ (r : {c['step']}). ({TK} ⊛ ‵ (S.the-row .own r (u ∷ []))) ⊛ raw (ensured 𝓤 H A g.ended {h['gc']} {K1} {GA} tt r)))) (id⊢ 𝓤 _) $ await ! tt $ pick ! (λ r.",
     )
     if m2:
         zt = product(["Unit {0}"] * 2 + [a.list if a.lent else "Unit {0}" for a in ps.all])
@@ -457,7 +578,7 @@ def lent(c):
             "move ! (1 ∷ []) $ split ! $ move ! (1 ∷ []) $",
         )
     else:
-        y("split ! $ move ! (1 ∷ []) $ use1 W (raw (fact 𝓤 (r ≡ found))) (said r) $ heard ! (r ≡ found) (λ e. split ! $ move ! (1 ∷ []) $")
+        y(f"split ! $ move ! (1 ∷ []) $ use1 W (raw (fact 𝓤 (r ≡ found))) (told 𝓤 H A g.ended {K1} {GA} (r ≡ found)) $ heard ! (r ≡ found) (λ e. split ! $ move ! (1 ∷ []) $")
     y("facts ! S.the-row (Is S.the-row) (shows 𝓤 H A S.the-row) r (u ∷ []) (λ is.")
     if m2:
         y("move ! (0 ∷ 2 ∷ 3 ∷ []) $")
@@ -465,31 +586,29 @@ def lent(c):
     y(
         f"-- [the tokens; what the reader owns; the others'; {'the last lists; ' if m2 else ''}the reader's cell; the open borrow; obs; auth; _{n - 1}; …; _1; …; room for _0; …]",
         f"land ! (from ! (stop !)) (init ! {p(m + 2)} refl (LL.lawful S.the-type S′.the-laws 𝓤 H A W .typed r _ is .0)) $ rewrite ! {p(m + 2)} (λ (w : Val). ‵ (fat fullShare S′.mir l{m + 2} 0 w)) (ap only (LL.tells S.the-type S′.the-laws r (u ∷ []) is)) refl $",
-        f"assigns ! (of-opd ! (load ! (from ! (fld ! refl (stop !))) (look-in ! {p(m + 2)} (sub ! 1 refl (whole !))))) (from ! (hop ! (look ! {p(1)} refl) (fld ! refl (stop !)))) (store-in ! {3 + f0} (sub ! 1 refl (whole !)) (LL.lawful N.the-type N′.the-laws 𝓤 H A W .typed (r .next) _ (is-next r u is) .0)) $",
-        f"assigns ! (of-opd ! (load ! (from ! (fld ! refl (stop !))) (look-in ! {p(m + 2)} (sub ! 0 refl (whole !))))) (from ! (stop !)) (init ! {p(0)} refl (EL.lawful B.the-type B′.the-laws 𝓤 H A W tt .typed (r .answer) _ (is-answer r u is) .0)) $",
+        f"assigns ! (of-opd ! (load ! (from ! (fld ! refl (stop !))) (look-in ! {p(m + 2)} (sub ! 1 refl (whole !))))) (from ! (hop ! (look ! {p(1)} refl) (fld ! refl (stop !)))) (store-in ! {3 + f0} (sub ! 1 refl (whole !)) (LL.lawful N.the-type N′.the-laws 𝓤 H A W .typed (r .next) _ (LL.owed S.the-type S′.the-laws r (u ∷ []) is .1 .0) .0)) $",
+        f"assigns ! (of-opd ! (load ! (from ! (fld ! refl (stop !))) (look-in ! {p(m + 2)} (sub ! 0 refl (whole !))))) (from ! (stop !)) (init ! {p(0)} refl (EL.lawful B.the-type B′.the-laws 𝓤 H A W tt .typed (r .answer) _ (LL.owed S.the-type S′.the-laws r (u ∷ []) is .0) .0)) $",
         "-- the borrow is closed",
-        "move ! (1 ∷ []) $ use1 W (‵ (R .own (with-next (r .next)) (mach (with-next (r .next)) ∷ []))) (again r (is-next r u is)) $",
-        f"move ! ({3 + f0} ∷ []) $ use1 W (‵ (cellAt fullShare (R .mir) (mach (with-next (r .next)) ∷ []) b o)) (W .laws .at-raw fullShare (T′.mir erased) b o (mach (with-next (r .next)))) $",
-        f"move ! (0 ∷ 1 ∷ {4 + f0} ∷ {5 + f0} ∷ {6 + f0} ∷ []) $ closes ! tt R (with-next (r .next)) (mach (with-next (r .next)) ∷ []) b o $",
+        "move ! (1 ∷ []) $ use1 W (‵ (Own 1 κ₁ (moved h (r .next)))) (with-numbers 1 κ₁ 𝓤 H A W h (r .next) (LL.owed S.the-type S′.the-laws r (u ∷ []) is .1 .0)) $",
+        f"move ! ({3 + f0} ∷ []) $ use1 W (‵ (cellAt fullShare (R 1 κ₁ .mir) (mach 1 κ₁ (moved h (r .next)) ∷ []) b o)) (W .laws .at-raw fullShare δ b o (mach 1 κ₁ (moved h (r .next)))) $",
+        f"move ! (0 ∷ 1 ∷ {4 + f0} ∷ {5 + f0} ∷ {6 + f0} ∷ []) $ closes ! tt (R 1 κ₁) (moved h (r .next)) (mach 1 κ₁ (moved h (r .next)) ∷ []) b o $",
         f"-- [obs; the borrow; the token; the tokens; the others'; {'the last lists; ' if m2 else ''}_{n - 1}; …; _0; …]",
     )
     p = place(5 + f0)
     y(
         f"returns ! (look ! {p(0)} refl) $ " + " $ ".join(f"forget ! {p(i)} refl" for i in range(n - 1, -1, -1)) + " $",
         " $ ".join(f"move ! ({p(i)} ∷ {p(i) + 1} ∷ []) $ free1 !" for i in range(n)) + " $ free0 ! $",
-        f"by ! (exits r {''.join(z + ' ' for z in zs)}e {h['ls']}(is-answer r u is))",
+        f"by ! (exits r {''.join(z + ' ' for z in zs)}e {h['ls']}(LL.owed S.the-type S′.the-laws r (u ∷ []) is .0))",
     )
     step_of = c.get("step_of", "")
     h.update(
         {
-            "callee": c["over"].replace("/", "::"),
-            "gkey": key(c["crate"], c["over"]),
             "K1": K1,
             "Q1": Q1,
             "TK": TK,
             "rows1": ps.rows(shift=1),
             "found": indent(found, "  "),
-            "says-next": f"λ i. with-next (e i {step_of}.next), λ i. e i {c['also_of']}" if m2 else "λ i. with-next (e i .next)",
+            "says-next": f"λ i. moved h (e i {step_of}.next), λ i. e i {c['also_of']}" if m2 else "λ i. moved h (e i .next)",
             "last": f"move ! (4 ∷ 5 ∷ []) $ use2 W (‵ (Ends {h['zs'].strip()})) (ended {h['zs'].strip()}) $ " if m2 else "",
             "at-tokens": "3 ∷ 4" if m2 else "2 ∷ 3",
             "walk": indent(close(w), "        "),
@@ -498,34 +617,50 @@ def lent(c):
     if m2:  # [Over Finals; obs; the borrow; the token; the tokens]
         h["last"] += "move ! (1 ∷ 2 ∷ 3 ∷ 4 ∷ 0 ∷ []) $ "
         h["at-tokens"] = "2 ∷ 3"
-    h["tail"] = fill("tail", dict(h, **tail_holes(c, h, ps, nl, "lent")))
-    text = fill("lent", h)
-    return finish(text, c, [("T", "EcDec"), ("S", c["step"]), ("N", "Reader"), ("B", c["answer"])], [("g", c["over"])])
+    h.update(tail_holes(c, h, ps, nl))
+    if c.get("shared"):
+        ref = "lone (MutRef (named 0) [] (R 1 []) .mir)"
+        h.update(
+            count=m + 1,
+            outlives="(1, 0) ∷ []",
+            locals=cells(["B′.mir", ref] + [p.ty for p in ps.all] + ["S′.mir", "N′.mir", "lone (ShrSlice erased [] u8 .mir)"]),
+            body=steps(
+                f"assign (place {m + 3} []) (rvOpd (copy (place 1 (deref δ ∷ field 1 ∷ []))))",
+                f"assign (place {m + 4} []) (rvOpd (copy (place 1 (deref δ ∷ field 0 ∷ []))))",
+                f"call k ({copies([m + 3, m + 4] + [2 + i for i in range(m)])}) (place {m + 2} [])",
+                f"assign (place 1 (deref δ ∷ field 1 ∷ [])) (rvOpd (copy (place {m + 2} (field 1 ∷ []))))",
+                f"assign (place 0 []) (rvOpd (copy (place {m + 2} (field 0 ∷ []))))",
+            ),
+        )
+    return written("lent", c, h, ps)
 
 
-def tail_holes(c, h, ps, nl, kind):
+def at_end(text):
+    """as a statement has what the walk is given"""
+    return text.replace("𝓤 H A W", "𝓤 H (𝓖 .A) (givenOf 𝓤 H 𝓜 𝓖)")
+
+
+def tail_holes(c, h, ps, nl):
     """from the walk to the statement"""
     row = f"T.the-row (namedLft {nl} 1 tt κs)"
-    own = "#" + c["crate"] + "·"
     κs = " ".join(f"(κs{at(i)})" for i in range(nl))
     qs = " ".join(f"(qs{at(i)})" for i in range(nl))
     ares = "".join(f" (are{at(1 + i)})" for i in range(len(ps.all)))
     return {
-        "contract": "Callee",
-        "gkey": key(c["crate"], c["over"]),
         "gcalls": "calls-" + key(c["crate"], c["over"])[1:],
         "vals-all": f"(ptr-vals, {h['vals-of']})",
         "tells-all": f"(mut-tells (named 0) (κs .0) ({row}), {h['tells-of']})",
-        "goes-all": f"(goes-ref 𝓤 H A W {nl} 0 tt behind, {h['goes']})",
+        "goes-all": at_end(f"(goes-ref 𝓤 H A W {nl} 0 tt behind, {h['goes']})"),
         "walk-args": f"{κs} {qs} bounds (a .0 .ptr .0) (a .0 .ptr .1) (a .0 .name) (a .0 .now) {h['pass-args']}C Λ fm known{ares}",
     }
 
 
 def over(c):
     """fn f(num: Reader, buf: &[u8], ..) -> Step { let mut d = EcDec { buf, num }; let answer = g(&mut d, ..); Step { answer, next: d.num } }"""
-    ps = Params(c["params"], 1)
+    ps = Params(c["params"], 1, c.get("lists"))
     nl, m, m2 = ps.lifetimes, len(ps.all), len(ps.lent)
     h = common(c, ps, nl)
+    h.update(whose(c, "by-value", "on-held"))
     κ, q = [lift("κ", i) for i in range(nl)], [lift("q", i) for i in range(nl)]
     tokens = lambda pairs: "".join(f"‵ (flft {a} {b}) ⊛ " for a, b in pairs) + "‵ ftrue"
     others = "(" + tokens(list(zip(κ[1:], q[1:]))) + ")" if nl > 1 else "‵ ftrue"
@@ -535,42 +670,42 @@ def over(c):
     toks = "(" + tokens(first) + ")"
     KC, QC = tup(["ν ∷ κ", "κ"] + κ[1:]), tup(["PosShare·left q", "PosShare·right q"] + q[1:])
     n = m + 7 + 2 * m2
-    d, answer, ref, next_ = m + 3, m + 4, m + 5, n - 1
+    d, answer, ref_at, next_ = m + 3, m + 4, m + 5, n - 1
     f0 = 1 if m2 else 0
     whole = lambda base: lambda i: base + 2 * (n - 1 - i)
     less = lambda base: lambda i: base + 2 * (n - 1 - i) - (1 if i < d else 0)  # the reader's cell is away, its end is not
     zs = [f"(zs{at(1 + ps.all.index(p))})" for p in ps.lent]
     done = f"Done k (zs .0){''.join(' ' + z for z in zs)}"
-    local = f"𝓤 H A W R refl δ refl κ q l{d}"
+    local = f"𝓤 H A W (R 1 κ) refl δ refl κ q l{d}"
     w, y = [], lambda *l: w.extend(l)
     p = whole(0)
-    lawful = "LL.lawful (T.the-type αᵉ) (T′.the-laws αᵉ) 𝓤 H A W .typed h _ (is-h is-buf) .0"
+    lawful = "LL.lawful (T.the-type (hidden κ)) (T′.the-laws (hidden κ)) 𝓤 H A W .typed h _ (is-holding 1 κ buf num is-buf is-num) .0"
     y(
-        f"qed W ({TK} ∷ ‵ (owns (N.the-row ∷ ShrSlice (named 0) κ u8 ∷ {h['rows']}[]) x at) ∷ []) ∵ enter ! C Λ code.function (num-val num ∷ v ∷ {h['machs']}[]) _ $",
+        f"qed W ({TK} ∷ ‵ (owns (N.the-row ∷ ShrSlice (named 0) κ u8 ∷ {h['rows']}[]) x at) ∷ []) ∵ enter ! C Λ {h['code']} (num-val num ∷ packet-val buf ∷ {h['machs']}[]) _ $",
         "".join(f"alloc1 ! (λ l{i}. " for i in range(n))
         + f"alloc0 ! $ params1 ! $ pass1 ! (init ! {p(1)} refl (LL.lawful N.the-type N′.the-laws 𝓤 H A W .typed num _ is-num .0)) $ pass1 ! (init ! {p(2)} refl (shr-slice-lawful 𝓤 H A W (named 0) κ u8 .typed buf _ is-buf .0)) $ "
         + "".join(f"pass1 ! (init ! {p(3 + i)} refl ({a.typed()})) $ " for i, a in enumerate(ps.all))
         + "pass0 ! $",
         "-- the reader is made",
         f"assigns ! (agg ! (and-then ! (load ! (from ! (stop !)) (look ! {p(2)} refl)) (and-then ! (load ! (from ! (stop !)) (look ! {p(1)} refl)) (no-more !)))) (from ! (stop !)) (init ! {p(d)} refl ({lawful})) $",
-        f"assigns ! (addr ! (from ! (stop !))) (from ! (stop !)) (init ! {p(ref)} refl (tt, tt)) $",
+        f"assigns ! (addr ! (from ! (stop !))) (from ! (stop !)) (init ! {p(ref_at)} refl (tt, tt)) $",
         *reborrow(ps, p, m + 6, 3),
-        f"move ! ({2 * n + 1} ∷ []) $ fsplit ! $ drop ! $ fsplit ! $ use1 W (‵ Packet ⊛ ‵ Packet) (shr-slice-copy 𝓤 H A W (named 0) κ u8 .twice buf (v ∷ [])) $ split ! $ use1 W (‵ (R .own h (mach h ∷ []))) makes-h $",
+        f"move ! ({2 * n + 1} ∷ []) $ fsplit ! $ drop ! $ fsplit ! $ use1 W (‵ (Packet κ buf) ⊛ ‵ (Packet κ buf)) (shr-slice-copy 𝓤 H A W (named 0) κ u8 .twice buf (packet-val buf ∷ [])) $ split ! $ use1 W (‵ (Own 1 κ h)) (makes-holding 1 κ 𝓤 H A W buf num is-num) $",
         f"-- [what the reader owns; the packet's; the others'; _{n - 1}; …; _1; …; room for _0; …; the tokens]",
         f"move ! ({2 * n + 3} ∷ []) $ split ! $ move ! ({whole(5)(d)} ∷ 2 ∷ 0 ∷ []) $",
         "-- it is lent",
-        f"use3 W (later (some (λ (ν : ℕ). some (λ (γ : GName). ‵ (MutRef (named 0) (ν ∷ κ) R .own (lent l{d} γ) (vptr l{d} 0 ∷ [])) ⊛ {toks} ⊛ raw (Lent {local} ν γ))))) (lends-local {local} h (mach h)) $ await ! tt $ pick ! (λ ν. pick ! (λ γ. split3 ! $",
+        f"use3 W (later (some (λ (ν : ℕ). some (λ (γ : GName). ‵ (MutRef (named 0) (ν ∷ κ) (R 1 κ) .own (args l{d} γ .0) (vptr l{d} 0 ∷ [])) ⊛ {toks} ⊛ raw (Lent {local} ν γ))))) (lends-local {local} h (mach 1 κ h)) $ await ! tt $ pick ! (λ ν. pick ! (λ γ. split3 ! $",
         "move ! (1 ∷ []) $ split3 ! $ move ! (1 ∷ 5 ∷ []) $ join ! $ move ! (1 ∷ 0 ∷ []) $ join ! $ move ! (5 ∷ []) $",
         "-- [the others'; the tokens; true; the loan; the lender's part; the packet's; the locals]",
-        f"{ps.twice()} move ! (4 ∷ 0 ∷ []) $ fjoin ! $ move ! (2 ∷ 0 ∷ []) $ use2 W (raw (Callee 𝓤 H A at-mem run .pre (to l{d} ν γ))) (asked l{d} ν γ) $",
+        f"{ps.twice()} move ! (4 ∷ 0 ∷ []) $ fjoin ! $ move ! (2 ∷ 0 ∷ []) $ use2 W (raw ({h['Callee']} .pre (to l{d} ν γ))) (asks-no-more 𝓤 _) $",
         f"-- [what it asks; the others'; true; the lender's part; the packet's; _{n - 1}; …; the end of _{d}; …; room for _0; …]",
     )
     p = less(5)
-    ops = [p(ref)] + passed_on(ps, p, 3, m + 6)
+    ops = [p(ref_at)] + passed_on(ps, p, 3, m + 6)
     zt = product(["EcDec"] + [a.list if a.lent else "Unit {0}" for a in ps.all])
     y(
-        f"calls-at ! fm (Callee 𝓤 H A at-mem run) known (to l{d} ν γ) {operands(ops)} (λ u.",
-        f"use1 W (later (some (λ (k : {c['answer']}). ({TC} ⊛ ‵ (B.the-row .own k (u ∷ []))) ⊛ raw (ensured 𝓤 H A g.ended (g.clauses 𝓤 H A at-mem run) {KC} (args l{d} γ) tt k)))) (id⊢ 𝓤 _) $ await ! tt $ pick ! (λ k.",
+        f"calls-at ! fm ({h['Callee']}) known (to l{d} ν γ) {operands(ops)} (λ u.",
+        f"use1 W (later (some (λ (k : {c['answer']}). ({TC} ⊛ ‵ (B.the-row .own k (u ∷ []))) ⊛ raw (ensured 𝓤 H A g.ended {h['gc']} {KC} (args l{d} γ) tt k)))) (id⊢ 𝓤 _) $ await ! tt $ pick ! (λ k.",
         f"split ! $ move ! (1 ∷ []) $ use1 W (some (λ (zs : {zt}). ‵ (lasts g.ended {KC} (args l{d} γ) zs) ⊛ raw (fact 𝓤 ({done})))) (id⊢ 𝓤 _) $ pick ! (λ zs.",
         f"split ! $ move ! (1 ∷ []) $ heard ! ({done}) (λ e. fsplit ! $ move ! (1 ∷ []) $",
     )
@@ -580,38 +715,35 @@ def over(c):
         y("drop ! $")
     p = less(6 + f0)
     tail = "; the last lists" if m2 else ""
+    told = "(Is (R 1 κ) (zs .0) (mach 1 κ (zs .0) ∷ []))"
     y(
         "move ! (1 ∷ []) $ split ! $ move ! (1 ∷ []) $ facts ! B.the-row (Is B.the-row) (shows 𝓤 H A B.the-row) k (u ∷ []) (λ is.",
         f"-- [the tokens; the last value; the others'; true; the lender's part; the packet's{tail}; the locals]",
         f"land ! (from ! (stop !)) (init ! {p(answer)} refl (EL.lawful B.the-type B′.the-laws 𝓤 H A W tt .typed k _ is .0)) $",
         "-- it comes back",
         "split ! $ move ! (1 ∷ []) $ split ! $ move ! (0 ∷ 5 ∷ []) $ join ! $ move ! (2 ∷ 0 ∷ []) $ join ! $ move ! (0 ∷ 2 ∷ 4 ∷ []) $",
-        f"use3 W (later (some (λ (w : Val). ‵ (fat fullShare δ l{d} 0 w) ⊛ ‵ (R .own (zs .0) (w ∷ [])) ⊛ ‵ (flft κ q)))) (comes-home {local} (zs .0) ν γ) $ await ! tt $ pick ! (λ w. split3 ! $",
-        "move ! (1 ∷ []) $ peeks ! R (Is R) (shows 𝓤 H A R) (zs .0) (w ∷ []) (λ is-d. drop ! $",
+        f"use3 W (later ((‵ (fat fullShare δ l{d} 0 (mach 1 κ (zs .0))) ⊛ ‵ (flft κ q)) ⊛ raw (fact 𝓤 {told}))) (comes-back 1 κ 𝓤 H A W q l{d} (zs .0) ν γ) $ await ! tt $ split ! $ move ! (1 ∷ []) $ heard ! {told} (λ is-d. split ! $",
         f"-- [_{d}; the token; the other tokens; the others'; the packet's{tail}; _{n - 1}; …; the end of _{d}; …; room for _0; …]",
-        f"rewrite ! 0 (λ (w′ : Val). ‵ (fat fullShare δ l{d} 0 w′)) (ap only (LL.tells D L (zs .0) (w ∷ []) is-d)) refl $",
     )
     p = less(5 + f0)
-    number = "(is-num-of (zs .0) w is-d)"
-    result = f"(is-made k (zs .0 .num) u (num-val (zs .0 .num)) is {number})"
+    number = "(is-num-of 1 κ (zs .0) _ is-d)"
+    result = f"((u ∷ [], (num-val (zs .0 .num) ∷ [], tt)), (refl, (is, ({number}, tt))))"
     y(
         f"assigns ! (of-opd ! (load ! (from ! (fld ! refl (stop !))) (look-in ! 0 (sub ! 1 refl (whole !))))) (from ! (stop !)) (init ! {p(next_)} refl (LL.lawful N.the-type N′.the-laws 𝓤 H A W .typed (zs .0 .num) _ {number} .0)) $",
-        f"assigns ! (agg ! {operands([p(answer), p(next_)])}) (from ! (stop !)) (init ! {p(0)} refl (LL.lawful S.the-type S′.the-laws 𝓤 H A W .typed (made k (zs .0 .num)) _ {result} .0)) $",
+        f"assigns ! (agg ! {operands([p(answer), p(next_)])}) (from ! (stop !)) (init ! {p(0)} refl (LL.lawful S.the-type S′.the-laws 𝓤 H A W .typed (made k (zs .0 .num)) (pair-val u (num-val (zs .0 .num)) ∷ []) ({result}) .0)) $",
         f"returns ! (look ! {p(0)} refl) $ forget ! 0 refl $ " + " $ ".join(f"forget ! {p(i)} refl" for i in range(n - 1, -1, -1) if i != d) + " $",
         " $ ".join(
             f"move ! (0 ∷ {p(d)} ∷ []) $ free1 !" if i == d else f"move ! ({p(i) - (i > d)} ∷ {p(i) + 1 - (i > d)} ∷ []) $ free1 !" for i in range(n)
         )
         + " $ free0 ! $",
-        f"join ! $ move ! (0 ∷ 2 ∷ []) $ by ! (exits (made k (zs .0 .num)) {''.join(z + ' ' for z in zs)}(made-val u (num-val (zs .0 .num))) {c['ends'] if m2 else '(λ i. made (e .0 i) (e .1 i .num))'} {h['ls']}{result})",
+        f"join ! $ move ! (0 ∷ 2 ∷ []) $ by ! (exits (made k (zs .0 .num)) {''.join(z + ' ' for z in zs)}(pair-val u (num-val (zs .0 .num))) {c['ends'] if m2 else '(λ i. made (e .0 i) (e .1 i .num))'} {h['ls']}{result})",
     )
     z = h["zs"].strip()
     h.update(
         {
-            "callee": c["over"].replace("/", "::"),
-            "gkey": key(c["crate"], c["over"]),
             "answer": c["answer"],
             "found-type": c["found_type"] if m2 else c["step"],
-            "found": c["found"],
+            "found": h["result"],
             "valtypes": product(["List Val"] * m),
             "KC": KC,
             "QC": QC,
@@ -629,23 +761,30 @@ def over(c):
     qs = " ".join(f"(qs{at(i)})" for i in range(nl))
     args = "".join(f"(a{at(i)}) " for i in range(m + 2))
     ares = "".join(f" (are{at(1 + i)})" for i in range(m + 1))
-    h["tail"] = fill(
-        "tail",
-        dict(
-            h,
-            **{
-                "contract": "Callee",
-                "gcalls": "calls-" + key(c["crate"], c["over"])[1:],
-                "vals-all": f"(LL.vals N.the-type N′.the-laws, (slice-vals, {h['vals-of']}))",
-                "tells-all": f"(LL.tells N.the-type N′.the-laws, (shr-slice-tells (named 0) (κs .0) u8, {h['tells-of']}))",
-                "goes-all": f"(goes-none 𝓤 H A W {nl} (λ _. N.the-row) yes (λ κs x f. refl), (goes-none-slice 𝓤 H A W {nl} (0 ∷ []) tt (plain (λ _. u8)) yes, {h['goes']}))",
-                "walk-args": f"{κs} {qs} {args}(are .0) C Λ fm known{ares}",
-            },
-        ),
+    h.update(
+        {
+            "gcalls": "calls-" + key(c["crate"], c["over"])[1:],
+            "vals-all": f"(LL.vals N.the-type N′.the-laws, (slice-vals, {h['vals-of']}))",
+            "tells-all": f"(LL.tells N.the-type N′.the-laws, (shr-slice-tells (named 0) (κs .0) u8, {h['tells-of']}))",
+            "goes-all": at_end(f"(goes-none 𝓤 H A W {nl} (λ _. N.the-row) yes (λ κs x f. refl), (goes-none-slice 𝓤 H A W {nl} (0 ∷ []) tt (plain (λ _. u8)) yes, {h['goes']}))"),
+            "walk-args": f"{κs} {qs} {args}(are .0) C Λ fm known{ares}",
+        }
     )
-    lent_lemmas = [f"use Rattle.{c['crate']}.proofs.Lent.{{Lent, lends-local, comes-home}}"]
-    c = dict(c, uses=c["uses"] + lent_lemmas)
-    return finish(fill("over", h), c, [("T", "EcDec"), ("S", c["step"]), ("N", "Reader"), ("B", c["answer"])], [("g", c["over"])])
+    if c.get("shared"):
+        ref = "lone (MutRef erased [] (T.the-row (hidden [])) .mir)"
+        h.update(
+            count=m + 2,
+            outlives="[]",
+            locals=cells(["S′.mir", "N′.mir", "lone (ShrSlice (named 0) [] u8 .mir)"] + [p.ty for p in ps.all] + ["*δ", "B′.mir", ref, "N′.mir"]),
+            body=steps(
+                f"assign (place {d} []) (aggregate ({copies([2, 1])}))",
+                f"assign (place {ref_at} []) (addrOf (place {d} []))",
+                f"call k ({copies([ref_at] + [3 + i for i in range(m)])}) (place {answer} [])",
+                f"assign (place {next_} []) (rvOpd (copy (place {d} (field 1 ∷ []))))",
+                f"assign (place 0 []) (aggregate ({copies([answer, next_])}))",
+            ),
+        )
+    return written("over", c, h, ps)
 
 
 def record(c):
@@ -839,20 +978,51 @@ def packet_alone(template, names):
             "gkey": key(c["crate"], c["over"]),
             "gcalls": "calls-" + key(c["crate"], c["over"])[1:],
             "found": c["found"],
-            "contract": "Callee",
             "vals-all": "(slice-vals, tt)",
             "tells-all": "(shr-slice-tells (named 0) (κs .0) u8, tt)",
-            "goes-all": "(goes-none-slice 𝓤 H A W 1 (0 ∷ []) tt (plain (λ _. u8)) yes, tt)",
+            "goes-all": at_end("(goes-none-slice 𝓤 H A W 1 (0 ∷ []) tt (plain (λ _. u8)) yes, tt)"),
             "walk-args": "(κs .0) (qs .0) (a .0) C Λ fm known (are .0)",
         }
-        h["tail"] = fill("tail", h)
-        return finish(fill(template, h), c, names, [("g", c["over"])])
+        return written(template, c, h, names=names)
 
     return walk
 
 
+def lists(c):
+    """the parameters of functions that are lent lists, each a tuple: what they own, and how it is parted"""
+    ps = Params(c["params"], 0, alone=True)
+    definitions, laws = ps.parts()
+    h = {
+        "uses": "@@uses@@",
+        "about": c["about"],
+        "lfts": product(["Lft"] * ps.lifetimes),
+        "dens": product([p.den for p in ps.all]),
+        "definitions": indent(definitions, "  "),
+        "laws": indent(laws, "    "),
+    }
+    return finish(fill("lists", h), c, [], [])
+
+
+def one(c):
+    """a function whose walk is shared: the read and the callee are put in"""
+    h = {
+        "uses": "@@uses@@",
+        "crate": c["crate"],
+        "path": c["fn"].replace("/", "::"),
+        "name": c["fn"].split("/")[-1].replace("_", "-"),
+        "fkey": key(c["crate"], c["fn"]),
+        "shared": c["by"],
+        "reading": c["reading"],
+        "callee": c["over"].replace("/", "::"),
+        "gkey": key(c["crate"], c["over"]),
+        "gcalls": "calls-" + key(c["crate"], c["over"])[1:],
+    }
+    c = dict(c, uses=c["uses"] + [f"use Rattle.{c['crate']}.proofs.{c['by']}.{{met}}"])
+    return finish(fill("isone", h), c, [], [("g", c["over"])])
+
+
 READER = [("T", "EcDec"), ("O", "Opened"), ("S", "Begun"), ("N", "Reader")]
-KINDS = {"lent": lent, "over": over, "open": packet_alone("open", READER), "begin": packet_alone("begin", READER), "record": record, "over-record": over_record}
+KINDS = {"lent": lent, "over": over, "one": one, "lists": lists, "open": packet_alone("open", READER), "begin": packet_alone("begin", READER), "record": record, "over-record": over_record}
 
 
 def main():
@@ -864,7 +1034,7 @@ def main():
         for entry in head.pop("walks"):
             c = dict(head, **entry)
             c["uses"] = head.get("uses", []) + entry.get("uses", [])
-            path = os.path.join(root, "crates", c["crate"], "proofs", c["fn"], "Proof.antt")
+            path = os.path.join(root, "crates", c["crate"], "proofs", c["shared"] + ".antt" if c.get("shared") else c["fn"] + "/Proof.antt")
             os.makedirs(os.path.dirname(path), exist_ok=True)
             open(path, "w").write(KINDS[c["walk"]](c))
             print("wrote", path)
