@@ -12,3 +12,17 @@ pub mod Stream
 pub mod Saved
 pub mod Listing
 pub mod RoundTripRun
+pub mod Held
+pub mod HeldPlain
+pub mod Lent
+pub mod LentPlain
+pub mod CeltAllocation
+pub mod CeltDec
+pub mod CeltEnc
+pub mod CeltEnergies
+pub mod CeltLap
+pub mod CeltLookups
+pub mod CeltPulses
+pub mod CeltRecord
+pub mod CeltRequests
+pub mod CeltShapes
