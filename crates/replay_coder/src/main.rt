@@ -1,48 +1,61 @@
 // Replays requests of the range coder, one a line, and answers each with a line; tools/compare makes them and says their form.
 mod calls;
 
-use calls::Now;
 use replay_io::input;
+use replay_io::list;
+use replay_state::Now;
 
-// A request's first byte and its numbers, against the coder's state.
-fn act(
+// A request over the bytes that are lent and the table's symbols.
+fn act(letter: u8, l: &[i32], s: &mut [u8], t: &[u8], out: &mut [u8], now: Now) -> Now {
+    match letter {
+        b'S' | b'O' | b'K' | b'k' | b'D' => replay_state::begin(letter, l, s, out, now),
+        _ => calls::call(letter, l, s, t, out, now),
+    }
+}
+
+// The same, over as much of the bytes and of the table as the requests up to it say.
+fn lend(letter: u8, l: &[i32], bytes: &mut [u8], table: &[u8], out: &mut [u8], now: Now) -> Now {
+    let n = now.lent;
+    let k = now.first as usize;
+    if n <= bytes.len() {
+        if k <= table.len() {
+            return act(letter, l, &mut bytes[..n], &table[..k], out, now);
+        }
+    }
+    now.malformed(out)
+}
+
+// A request by its letter and its numbers, of which there are so many.
+fn ask(
     letter: u8,
-    a: replay_io::Asked,
+    l: &[i32],
+    count: u32,
     bytes: &mut [u8],
-    table: &[u8],
+    table: &mut [u8],
     out: &mut [u8],
     now: Now,
 ) -> Now {
-    match letter {
-        b'S' => calls::start(a, bytes, out, now),
-        b'D' => calls::damage(a, bytes, out, now),
-        b'O' => calls::open(bytes, out, now),
-        _ => calls::call(letter, a, bytes, table, out, now),
-    }
-}
-
-// How many numbers a request has, by its first byte; 4 for a byte that begins none.
-fn count_of(letter: u8) -> u32 {
-    match letter {
-        b'S' | b'D' | b'B' | b'U' | b'R' => 2,
-        b'I' | b'b' | b'u' | b'r' => 1,
-        b'O' | b'C' | b'i' => 0,
-        _ => 4,
-    }
-}
-
-// Answers one line.
-fn step(line: &[u8], bytes: &mut [u8], table: &mut [u8], out: &mut [u8], now: Now) -> Now {
-    if line.len() == 0 {
-        return now.malformed(out);
-    }
-    let letter = line[0];
     if letter == b'T' {
-        return calls::lay(line, table, out, now);
+        return calls::lay(l, count, table, out, now);
     }
-    let a = replay_io::numbers(line);
-    if a.count == count_of(letter) {
-        act(letter, a, bytes, table, out, now)
+    let on = now.lending(letter, l, bytes.len());
+    lend(letter, l, bytes, table, out, on)
+}
+
+// Answers a line.
+fn step(line: &[u8], bytes: &mut [u8], table: &mut [u8], out: &mut [u8], now: Now) -> Now {
+    let mut numbers = [0i32; 257];
+    let count = list::read(line, 1, &mut numbers);
+    if count <= 257 {
+        ask(
+            input::byte(line, 0),
+            &numbers,
+            count as u32,
+            bytes,
+            table,
+            out,
+            now,
+        )
     } else {
         now.malformed(out)
     }
@@ -73,7 +86,7 @@ fn run(
     table: &mut [u8],
     out: &mut [u8],
 ) -> Now {
-    let mut now = calls::fresh();
+    let mut now = replay_state::fresh();
     let mut t = input::next(block, line, input::begin());
     let mut lines: u32 = 4294967295;
     while 0 < lines {

@@ -156,59 +156,6 @@ fn figures_at(s: &[u8], from: usize) -> Field {
     }
 }
 
-// The number after the blank at a place of a line: decimal figures alone, no needless zero, at most 4,294,967,295.
-pub fn number_at(s: &[u8], at: usize) -> Field {
-    if s.len() <= at {
-        return Field::Missing;
-    }
-    if s[at] != b' ' {
-        return Field::Missing;
-    }
-    figures_at(s, at + 1)
-}
-
-// The numbers of a line after its first letter, of which the first two are kept; a line with anything else has count 3.
-pub struct Asked {
-    pub first: u32,
-    pub second: u32,
-    pub count: u32,
-}
-
-fn asked_of(first: u32, second: u32, count: u32) -> Asked {
-    Asked {
-        first,
-        second,
-        count,
-    }
-}
-
-// A letter and nothing after it, or at most two numbers.
-pub fn numbers(s: &[u8]) -> Asked {
-    if s.len() == 1 {
-        return asked_of(0, 0, 0);
-    }
-    match number_at(s, 1) {
-        Field::Is(a) => second_of(s, a),
-        Field::Missing => asked_of(0, 0, 3),
-    }
-}
-
-fn second_of(s: &[u8], a: Number) -> Asked {
-    if a.next == s.len() {
-        return asked_of(a.value, 0, 1);
-    }
-    match number_at(s, a.next) {
-        Field::Is(b) => {
-            if b.next == s.len() {
-                asked_of(a.value, b.value, 2)
-            } else {
-                asked_of(0, 0, 3)
-            }
-        }
-        Field::Missing => asked_of(0, 0, 3),
-    }
-}
-
 // Writes the text out once it is longer than most; the length of what is left.
 pub fn flush(out: &[u8], n: usize, most: usize) -> usize {
     if n <= most {

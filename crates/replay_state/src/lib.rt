@@ -1,5 +1,7 @@
-// A coder under replay: how it begins and ends, and its answers as text.
+// A coder under replay: where a program stands, the requests that begin a coder, its state as numbers, and its answers as text. The numbers of a
+// request stand in a list l.
 use entdec::Reader;
+use entdec::Started;
 use entenc::Sink;
 use entenc::Writer;
 use replay_io::list::word;
@@ -13,10 +15,92 @@ pub enum Coder {
     Reading(Reader),
 }
 
-// The coder after a request, and how long the text then is.
-pub struct Done {
-    pub coder: Coder,
+// Where a program stands: the bytes of the text to write, the bytes that are lent, two numbers of its own, and the coder.
+pub struct Now {
     pub written: usize,
+    pub lent: usize,
+    pub first: u32,
+    pub second: u32,
+    pub coder: Coder,
+}
+
+// Before the first request.
+pub fn fresh() -> Now {
+    Now {
+        written: 0,
+        lent: 0,
+        first: 0,
+        second: 0,
+        coder: Coder::Idle,
+    }
+}
+
+impl Now {
+    // A longer text.
+    pub fn said(mut self, written: usize) -> Now {
+        self.written = written;
+        self
+    }
+
+    // Other numbers of the program's own.
+    pub fn kept(mut self, first: u32, second: u32) -> Now {
+        self.first = first;
+        self.second = second;
+        self
+    }
+
+    // Another coder and a longer text.
+    pub fn turned(self, coder: Coder, written: usize) -> Now {
+        Now {
+            written,
+            lent: self.lent,
+            first: self.first,
+            second: self.second,
+            coder,
+        }
+    }
+
+    // A request that has no meaning here.
+    pub fn malformed(self, out: &mut [u8]) -> Now {
+        let n = say::malformed(out, self.written);
+        self.said(n)
+    }
+
+    // A call that was refused.
+    pub fn refused(self, out: &mut [u8], no: u32) -> Now {
+        let n = say::refused(out, self.written, no);
+        self.said(n)
+    }
+
+    // The bytes that a request is about, of so many: S names them, and for any other they stay.
+    pub fn lending(mut self, letter: u8, l: &[i32], most: usize) -> Now {
+        if letter == b'S' {
+            self.lent = replay_io::list::length_at(l, 0, most);
+        }
+        self
+    }
+}
+
+// A writer's answer and its line; a refusal leaves the coder as it was.
+pub fn wrote(letter: u8, a: entenc::Answer, s: &[u8], out: &mut [u8], now: Now) -> Now {
+    match a {
+        entenc::Answer::Next(w) => {
+            let n = say::written(out, now.written, letter, w, s);
+            now.turned(Coder::Writing(w), n)
+        }
+        entenc::Answer::Refused(no) => now.refused(out, no),
+    }
+}
+
+// A new reader and its line.
+fn opened(letter: u8, a: Started, out: &mut [u8], now: Now) -> Now {
+    match a {
+        Started::At(r) => {
+            let n = say::opened(out, now.written, letter, r);
+            now.turned(Coder::Reading(r), n)
+        }
+        Started::Refused(no) => now.refused(out, no),
+    }
 }
 
 // Every byte becomes b.
@@ -28,49 +112,31 @@ fn fill(s: &mut [u8], b: u8) {
     }
 }
 
-// A new writer over bytes that all are b, and its line.
-pub fn start(s: &mut [u8], b: u8, out: &mut [u8], n: usize) -> Done {
-    fill(s, b);
-    let answer = Writer::new(s);
-    match answer {
-        entenc::Answer::Next(w) => Done {
-            coder: Coder::Writing(w),
-            written: say::written(out, n, b'S', w, s),
-        },
-        entenc::Answer::Refused(no) => Done {
-            coder: Coder::Idle,
-            written: say::refused(out, n, no),
-        },
+// S: a new writer, over bytes that all are one number.
+fn start(l: &[i32], s: &mut [u8], out: &mut [u8], now: Now) -> Now {
+    fill(s, (word(l, 1) % 256) as u8);
+    wrote(b'S', Writer::new(s), s, out, now)
+}
+
+// D: a byte is changed.
+fn damage(l: &[i32], s: &mut [u8], out: &mut [u8], now: Now) -> Now {
+    let at = word(l, 0) as usize;
+    if at < s.len() {
+        s[at] = (word(l, 1) % 256) as u8;
+        now
+    } else {
+        now.malformed(out)
     }
 }
 
-// A new reader over the bytes, and its line.
-pub fn open(s: &[u8], out: &mut [u8], n: usize) -> Done {
-    let answer = Reader::new(s);
-    match answer {
-        entdec::Started::At(r) => Done {
-            coder: Coder::Reading(r),
-            written: say::opened(out, n, b'O', r),
-        },
-        entdec::Started::Refused(no) => Done {
-            coder: Coder::Idle,
-            written: say::refused(out, n, no),
-        },
-    }
-}
-
-// A writer's close, and its line.
-pub fn close(w: Writer, s: &mut [u8], out: &mut [u8], n: usize) -> Done {
-    let answer = w.close(s);
-    match answer {
-        entenc::Answer::Next(next) => Done {
-            coder: Coder::Writing(next),
-            written: say::written(out, n, b'C', next, s),
-        },
-        entenc::Answer::Refused(no) => Done {
-            coder: Coder::Writing(w),
-            written: say::refused(out, n, no),
-        },
+// S, O, K and k begin a coder over the bytes: K and k with all its numbers. D changes a byte.
+pub fn begin(letter: u8, l: &[i32], s: &mut [u8], out: &mut [u8], now: Now) -> Now {
+    match letter {
+        b'S' => start(l, s, out, now),
+        b'O' => opened(b'O', Reader::new(s), out, now),
+        b'K' => wrote(b'K', entenc::Answer::Next(writer_of(l)), s, out, now),
+        b'k' => opened(b'k', Started::At(reader_of(l)), out, now),
+        _ => damage(l, s, out, now),
     }
 }
 

@@ -49,7 +49,7 @@ fn told(out: &mut [u8], n: usize, t: Told) -> usize {
     match t {
         Told::Used(v) => push_number(out, n, v),
         Told::Refused(no) => {
-            let k = push(out, n, b'X');
+            let k = replay_io::push_all(out, n, b" X");
             push_number(out, k, no)
         }
     }

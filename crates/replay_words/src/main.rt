@@ -1,85 +1,21 @@
-// Replays requests of Laplace values and pulse words, one a line, and answers each with a line; tools/compare makes them and says their
-// form.
-mod now;
+// Replays requests of Laplace values, pulse words and lookups, one a line, and answers each with a line; tools/compare makes them and says their
+// form. The program's two numbers are the pair of Laplace values.
+mod lookups;
 mod values;
 mod vectors;
 
 use entdec::Reader;
 use entenc::Writer;
-use now::Now;
-use replay_io::Asked;
 use replay_io::input;
+use replay_io::list;
+use replay_io::list::word;
 use replay_state::Coder;
-
-// S: a new writer over some bytes.
-fn start(a: Asked, bytes: &mut [u8], out: &mut [u8], now: Now) -> Now {
-    let n = a.first as usize;
-    if n <= bytes.len() {
-        let d = replay_state::start(&mut bytes[..n], (a.second % 256) as u8, out, now.written);
-        now.done(d, n)
-    } else {
-        now.malformed(out)
-    }
-}
-
-// D: a byte is changed.
-fn damage(a: Asked, bytes: &mut [u8], out: &mut [u8], now: Now) -> Now {
-    let at = a.first as usize;
-    if at < bytes.len() {
-        bytes[at] = (a.second % 256) as u8;
-        now
-    } else {
-        now.malformed(out)
-    }
-}
-
-// O: a new reader over the bytes.
-fn open(bytes: &[u8], out: &mut [u8], now: Now) -> Now {
-    let n = now.storage;
-    if n <= bytes.len() {
-        let d = replay_state::open(&bytes[..n], out, now.written);
-        now.done(d, n)
-    } else {
-        now.malformed(out)
-    }
-}
-
-// A request for the 176 places.
-fn lay(letter: u8, a: Asked, places: &mut [i32], out: &mut [u8], now: Now) -> Now {
-    if letter == b'Z' {
-        vectors::clear(places);
-        now
-    } else {
-        vectors::lay(a, letter == b'M', places, out, now)
-    }
-}
-
-// L and N, where the size is an i32's.
-fn put_value(letter: u8, a: Asked, s: &mut [u8], out: &mut [u8], now: Now, w: Writer) -> Now {
-    if a.first <= 2147483647 {
-        values::put(
-            letter,
-            laws::value_of(letter == b'N', a.first),
-            s,
-            out,
-            now,
-            w,
-        )
-    } else {
-        now.malformed(out)
-    }
-}
-
-// C: the writer's close.
-fn close(s: &mut [u8], out: &mut [u8], now: Now, w: Writer) -> Now {
-    let d = replay_state::close(w, s, out, now.written);
-    now.done(d, now.storage)
-}
+use replay_state::Now;
 
 // A write or the close.
 fn write_on(
     letter: u8,
-    a: Asked,
+    l: &[i32],
     s: &mut [u8],
     places: &[i32],
     out: &mut [u8],
@@ -87,9 +23,12 @@ fn write_on(
     w: Writer,
 ) -> Now {
     match letter {
-        b'L' | b'N' => put_value(letter, a, s, out, now, w),
-        b'W' => vectors::put(a, s, places, out, now, w),
-        b'C' => close(s, out, now, w),
+        b'L' => values::put(list::at(l, 0), s, out, now, w),
+        b'W' => vectors::put(l, s, places, out, now, w),
+        b'C' => {
+            let a = w.close(s);
+            replay_state::wrote(b'C', a, s, out, now)
+        }
         _ => now.malformed(out),
     }
 }
@@ -97,7 +36,7 @@ fn write_on(
 // A read.
 fn read_on(
     letter: u8,
-    a: Asked,
+    l: &[i32],
     s: &[u8],
     places: &mut [i32],
     out: &mut [u8],
@@ -106,83 +45,56 @@ fn read_on(
 ) -> Now {
     match letter {
         b'l' => values::get(s, out, now, r),
-        b'w' => vectors::get(a, s, places, out, now, r),
+        b'w' => vectors::get(l, s, places, out, now, r),
         _ => now.malformed(out),
     }
 }
 
 // A call of the writer or of the reader, whoever works.
-fn call_on(
-    letter: u8,
-    a: Asked,
-    s: &mut [u8],
-    places: &mut [i32],
-    out: &mut [u8],
-    now: Now,
-) -> Now {
+fn call(letter: u8, l: &[i32], s: &mut [u8], places: &mut [i32], out: &mut [u8], now: Now) -> Now {
     let coder = now.coder;
     match coder {
-        Coder::Writing(w) => write_on(letter, a, s, places, out, now, w),
-        Coder::Reading(r) => read_on(letter, a, s, places, out, now, r),
+        Coder::Writing(w) => write_on(letter, l, s, places, out, now, w),
+        Coder::Reading(r) => read_on(letter, l, s, places, out, now, r),
         Coder::Idle => now.malformed(out),
     }
 }
 
-// The same, over the bytes that the requests before it made.
-fn call(
+// A request over the bytes that are lent.
+fn act(letter: u8, l: &[i32], s: &mut [u8], places: &mut [i32], out: &mut [u8], now: Now) -> Now {
+    match letter {
+        b'S' | b'O' | b'K' | b'k' | b'D' => replay_state::begin(letter, l, s, out, now),
+        b'P' => now.kept(word(l, 0), word(l, 1)),
+        b'Z' | b'A' => vectors::lay(letter, l, places, now),
+        b'G' | b'B' | b'b' => lookups::look(letter, l, out, now),
+        _ => call(letter, l, s, places, out, now),
+    }
+}
+
+// The same, over as many bytes as the requests up to it say.
+fn lend(
     letter: u8,
-    a: Asked,
+    l: &[i32],
     bytes: &mut [u8],
     places: &mut [i32],
     out: &mut [u8],
     now: Now,
 ) -> Now {
-    let n = now.storage;
+    let n = now.lent;
     if n <= bytes.len() {
-        call_on(letter, a, &mut bytes[..n], places, out, now)
-    } else {
-        now.malformed(out)
+        return act(letter, l, &mut bytes[..n], places, out, now);
     }
+    now.malformed(out)
 }
 
-// A request's first byte and its numbers, against the program's state.
-fn act(
-    letter: u8,
-    a: Asked,
-    bytes: &mut [u8],
-    places: &mut [i32],
-    out: &mut [u8],
-    now: Now,
-) -> Now {
-    match letter {
-        b'S' => start(a, bytes, out, now),
-        b'D' => damage(a, bytes, out, now),
-        b'O' => open(bytes, out, now),
-        b'P' => now.paired(a.first, a.second),
-        b'Z' | b'A' | b'M' => lay(letter, a, places, out, now),
-        _ => call(letter, a, bytes, places, out, now),
-    }
-}
-
-// How many numbers a request has, by its first byte; 4 for a byte that begins none.
-fn count_of(letter: u8) -> u32 {
-    match letter {
-        b'S' | b'D' | b'P' | b'A' | b'M' | b'W' | b'w' => 2,
-        b'L' | b'N' => 1,
-        b'O' | b'C' | b'Z' | b'l' => 0,
-        _ => 4,
-    }
-}
-
-// Answers one line.
+// Answers a line.
 fn step(line: &[u8], bytes: &mut [u8], places: &mut [i32], out: &mut [u8], now: Now) -> Now {
-    if line.len() == 0 {
-        return now.malformed(out);
-    }
-    let letter = line[0];
-    let a = replay_io::numbers(line);
-    if a.count == count_of(letter) {
-        act(letter, a, bytes, places, out, now)
+    let letter = input::byte(line, 0);
+    let mut l = [0i32; 12];
+    let count = list::read(line, 1, &mut l);
+    if count <= 12 {
+        let on = now.lending(letter, &l, bytes.len());
+        lend(letter, &l, bytes, places, out, on)
     } else {
         now.malformed(out)
     }
@@ -213,7 +125,7 @@ fn run(
     places: &mut [i32],
     out: &mut [u8],
 ) -> Now {
-    let mut now = now::fresh();
+    let mut now = replay_state::fresh();
     let mut t = input::next(block, line, input::begin());
     let mut lines: u32 = 4294967295;
     while 0 < lines {
@@ -229,7 +141,7 @@ fn run(
 
 fn main() {
     let mut block = io::large_buffer();
-    let mut line = [0u8; 100];
+    let mut line = [0u8; 200];
     let mut bytes = [0u8; 1300];
     let mut places = [0i32; 176];
     let mut out = [0u8; 8192];

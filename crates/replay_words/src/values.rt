@@ -1,5 +1,4 @@
 // Requests of Laplace values as public calls.
-use super::now::Now;
 use entdec::Reader;
 use entenc::Writer;
 use laplace::LapDone;
@@ -8,12 +7,13 @@ use laplace::LapSym;
 use laplace::LapWrote;
 use replay_io::push;
 use replay_state::Coder;
+use replay_state::Now;
 use replay_state::say;
 
 // The line of a value that was written: the value that counts, and the state.
-fn say_written(letter: u8, done: LapDone, s: &[u8], out: &mut [u8], now: Now) -> Now {
+fn say_written(done: LapDone, s: &[u8], out: &mut [u8], now: Now) -> Now {
     let next = done.next;
-    let a = push(out, now.written, letter);
+    let a = push(out, now.written, b'L');
     let b = say::signed(out, a, done.value);
     let c = say::writer(out, b, next);
     let d = say::bytes(out, c, s, false);
@@ -21,11 +21,11 @@ fn say_written(letter: u8, done: LapDone, s: &[u8], out: &mut [u8], now: Now) ->
     now.turned(Coder::Writing(next), e)
 }
 
-// L and N: a value of the pair.
-pub fn put(letter: u8, value: i32, s: &mut [u8], out: &mut [u8], now: Now, w: Writer) -> Now {
-    let answer = laplace::ec_laplace_encode(w, s, value, now.fs, now.decay);
+// L: a value of the pair.
+pub fn put(value: i32, s: &mut [u8], out: &mut [u8], now: Now, w: Writer) -> Now {
+    let answer = laplace::ec_laplace_encode(w, s, value, now.first, now.second);
     match answer {
-        LapWrote::Next(done) => say_written(letter, done, s, out, now),
+        LapWrote::Next(done) => say_written(done, s, out, now),
         LapWrote::Refused(no) => now.refused(out, no),
     }
 }
@@ -42,7 +42,7 @@ fn say_read(got: LapSym, out: &mut [u8], now: Now) -> Now {
 
 // l: a value of the pair.
 pub fn get(s: &[u8], out: &mut [u8], now: Now, r: Reader) -> Now {
-    let answer = laplace::ec_laplace_decode(r, s, now.fs, now.decay);
+    let answer = laplace::ec_laplace_decode(r, s, now.first, now.second);
     match answer {
         LapRead::Got(got) => say_read(got, out, now),
         LapRead::Refused(no) => now.refused(out, no),

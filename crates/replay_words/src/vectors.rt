@@ -1,17 +1,18 @@
 // Requests of pulse words as public calls.
-use super::now::Now;
 use cwrs::Decoded;
 use cwrs::Found;
 use entdec::Reader;
 use entenc::Writer;
-use replay_io::Asked;
+use replay_io::list::at;
+use replay_io::list::word;
 use replay_io::push;
 use replay_io::push_number;
 use replay_state::Coder;
+use replay_state::Now;
 use replay_state::say;
 
-// Z: every place is 0.
-pub fn clear(places: &mut [i32]) {
+// Every place becomes 0.
+fn clear(places: &mut [i32]) {
     let mut i = 0;
     while i < places.len() {
         places[i] = 0;
@@ -19,16 +20,17 @@ pub fn clear(places: &mut [i32]) {
     }
 }
 
-// A and M: one place becomes a number, positive or negative.
-pub fn lay(a: Asked, negative: bool, places: &mut [i32], out: &mut [u8], now: Now) -> Now {
-    let at = a.first as usize;
-    if at < places.len() {
-        if a.second <= 2147483647 {
-            places[at] = laws::value_of(negative, a.second);
-            return now;
-        }
+// Z: every place becomes 0. A: one becomes a number.
+pub fn lay(letter: u8, l: &[i32], places: &mut [i32], now: Now) -> Now {
+    if letter == b'Z' {
+        clear(places);
+        return now;
     }
-    now.malformed(out)
+    let i = word(l, 0) as usize;
+    if i < places.len() {
+        places[i] = at(l, 1);
+    }
+    now
 }
 
 // What the range is: three numbers of the state.
@@ -39,8 +41,8 @@ fn say_range(out: &mut [u8], n: usize, total: u32, rng: u32, val: u32) -> usize 
 }
 
 // W: the vector in the first places.
-pub fn put(a: Asked, s: &mut [u8], places: &[i32], out: &mut [u8], now: Now, w: Writer) -> Now {
-    let answer = cwrs::encode_pulses(w, s, places, a.first, a.second);
+pub fn put(l: &[i32], s: &mut [u8], places: &[i32], out: &mut [u8], now: Now, w: Writer) -> Now {
+    let answer = cwrs::encode_pulses(w, s, places, word(l, 0), word(l, 1));
     match answer {
         entenc::Answer::Next(next) => {
             let b = push(out, now.written, b'W');
@@ -89,8 +91,8 @@ fn say_found(f: Found, places: &[i32], out: &mut [u8], now: Now) -> Now {
 }
 
 // w: a vector, into the first places.
-pub fn get(a: Asked, s: &[u8], places: &mut [i32], out: &mut [u8], now: Now, r: Reader) -> Now {
-    let answer = cwrs::decode_pulses(r, s, places, a.first, a.second);
+pub fn get(l: &[i32], s: &[u8], places: &mut [i32], out: &mut [u8], now: Now, r: Reader) -> Now {
+    let answer = cwrs::decode_pulses(r, s, places, word(l, 0), word(l, 1));
     match answer {
         Decoded::Got(f) => say_found(f, places, out, now),
         Decoded::Refused(no) => now.refused(out, no),

@@ -10,14 +10,13 @@
 //! Before the call the list for pulses holds -1 throughout, that for fine bits -2, and that for priorities -3. An answer is the request's letter and the
 //! state after the call as in coder.rs, then, | before each: coded, balance, intensity and dual; the three lists whole; the bytes in hex.
 //! A refusal is X and its number, and then the lists and the bytes as well.
-use crate::coder;
-use crate::Side;
+use crate::{coder, refusals, states, Side};
 use oracle::celt::entcode::{ec_ctx_saved, ec_tell, ec_tell_frac};
 use oracle::celt::{entdec, entenc, modes, rate};
 use oracle::libopus;
 
 /// The numbers of a call.
-#[derive(Clone, Copy)]
+#[derive(Clone, Copy, Debug)]
 pub struct Numbers {
     pub c: i32,
     pub lm: i32,
@@ -29,6 +28,27 @@ pub struct Numbers {
     pub dual: i32,
     pub previous: i32,
     pub bandwidth: i32,
+}
+
+impl Numbers {
+    /// Document 01's domain of the numbers.
+    pub fn are_ok(&self, writes: bool) -> bool {
+        let n = self;
+        let stereo = (n.start..=n.end).contains(&n.intensity) && (0..=1).contains(&n.dual);
+        (1..=2).contains(&n.c)
+            && (0..=3).contains(&n.lm)
+            && 0 <= n.start
+            && n.start < n.end
+            && n.end <= 21
+            && (0..=10).contains(&n.trim)
+            && n.total <= 81600
+            && (!writes || n.c == 1 || stereo)
+    }
+}
+
+/// Every offset and every cap is inside its range.
+pub fn are_entries(offsets: &[i32], caps: &[i32]) -> bool {
+    offsets.iter().all(|v| (0..=81600).contains(v)) && caps.iter().all(|v| (0..=32767).contains(v))
 }
 
 /// A coder's state in the port's encoding and order: storage offs ends window waiting total rng val ext rem error closed.
@@ -83,47 +103,28 @@ impl Asked {
         }
     }
 
-    /// Document 01's rule of a coder state that is handed in.
-    fn state_ok(&self) -> bool {
-        let [storage, offs, ends, _, waiting, total, rng, val, ext, rem, ..] = self.state;
-        let [places, low, held] = match self.writes {
-            true => [offs as u64 + ends as u64 <= storage as u64, val as u64 + (rng as u64) < 1 << 32, rem <= 256 && ext <= 65535],
-            false => [offs <= storage && ends <= storage, val < rng, rem <= 255],
-        };
-        storage <= 1275 && rng > 1 << 23 && rng <= 1 << 31 && waiting <= 32 && (33..=65535).contains(&total) && places && low && held
-    }
-
-    /// Document 01's domain of the numbers.
-    fn numbers_ok(&self) -> bool {
-        let n = self.numbers;
-        let stereo = (n.start..=n.end).contains(&n.intensity) && (0..=1).contains(&n.dual);
-        (1..=2).contains(&n.c)
-            && (0..=3).contains(&n.lm)
-            && 0 <= n.start
-            && n.start < n.end
-            && n.end <= 21
-            && (0..=10).contains(&n.trim)
-            && n.total <= 81600
-            && (!self.writes || n.c == 1 || stereo)
+    /// The state as the exported calls take it.
+    pub fn list(&self) -> states::List {
+        let [at @ .., closed] = self.state;
+        states::list(&at, closed, self.writes)
     }
 
     /// Document 01's number of the refusal, 0 for none: 2, 1, 3, 12, 4, whichever is met first.
     pub fn refusal(&self) -> u32 {
-        let [storage, .., total, rng, _, _, _, _, closed] = self.state;
+        self.refusal_of(&self.list())
+    }
+
+    /// The same with another state.
+    pub fn refusal_of(&self, list: &states::List) -> u32 {
         let lengths = [self.offsets.len(), self.caps.len(), self.room[0], self.room[1], self.room[2]];
-        if storage as usize != self.bytes.len() || lengths != [21; 5] {
-            2
-        } else if !self.state_ok() || !self.numbers_ok() {
-            1
-        } else if !self.offsets.iter().all(|v| (0..=81600).contains(v)) || !self.caps.iter().all(|v| (0..=32767).contains(v)) {
-            3
-        } else if self.writes && closed != 0 {
-            12
-        } else if total - (32 - rng.leading_zeros()) > 8 * storage + 32 {
-            4
-        } else {
-            0
-        }
+        refusals::first(
+            list[0] == self.bytes.len() as i64 && lengths == [21; 5],
+            states::list_ok(list, self.writes) && self.numbers.are_ok(self.writes),
+            are_entries(&self.offsets, &self.caps),
+            0,
+            !(self.writes && list[11] != 0),
+            states::list_tell(list) <= 8 * self.bytes.len() as i64 + 32,
+        )
     }
 
     /// The lists for the answer before the call.
@@ -132,7 +133,7 @@ impl Asked {
     }
 
     /// The state in the crate's encoding: rem is -1 where none is held, and the error mark is 1 in a reader, -1 in a writer.
-    fn saved(&self) -> ec_ctx_saved {
+    pub fn saved(&self) -> ec_ctx_saved {
         let [storage, offs, end_offs, end_window, waiting, total, rng, val, ext, rem, error, _] = self.state;
         let marked = if self.writes { -1 } else { 1 };
         ec_ctx_saved {
@@ -157,15 +158,15 @@ pub struct Given {
     pub frac: u32,
 }
 
-/// The crate's answer to a request that is not refused.
-fn by_crate(a: &Asked) -> Given {
+/// The crate's answer to a request that is not refused, from a coder's state.
+pub fn by_crate(a: &Asked, at: ec_ctx_saved) -> Given {
     let n = a.numbers;
     let mut bytes = a.bytes.clone();
     let (mut intensity, mut dual, mut balance) = (n.intensity, n.dual, 0);
     let mut lists = a.lists();
     let [pulses, fine, priorities] = &mut lists;
     let mut c = if a.writes { entenc::ec_enc_init(&mut bytes) } else { entdec::ec_dec_init(&mut bytes) };
-    c.restore(a.saved());
+    c.restore(at);
     // Every list has 21 entries, and start and end are bands of the mode.
     let coded = unsafe {
         let mode = modes::opus_custom_mode_create(48000, 960, &mut 0);
@@ -178,18 +179,14 @@ fn by_crate(a: &Asked) -> Given {
     Given { coded, balance, intensity, dual, lists, bytes, at, tell, frac }
 }
 
-/// libopus' answer to a request that is not refused.
-fn by_libopus(a: &Asked) -> Given {
+/// libopus' answer to such a request.
+pub fn by_libopus(a: &Asked, at: ec_ctx_saved) -> Given {
     let n = a.numbers;
     let mut bytes = a.bytes.clone();
     let (mut intensity, mut dual, mut balance) = (n.intensity, n.dual, 0);
     let mut lists = a.lists();
     let [pulses, fine, priorities] = &mut lists;
-    let at = a.saved();
-    let mut c = libopus::EcCtx {
-        buf: bytes.as_mut_ptr(), storage: at.storage, end_offs: at.end_offs, end_window: at.end_window, nend_bits: at.nend_bits,
-        nbits_total: at.nbits_total, offs: at.offs, rng: at.rng, val: at.val, ext: at.ext, rem: at.rem, error: at.error,
-    };
+    let mut c = states::lent(&at, &mut bytes);
     // As above; the bytes outlive the calls.
     let (coded, frac) = unsafe {
         let mode = libopus::opus_custom_mode_create(48000, 960, &mut 0);
@@ -199,10 +196,7 @@ fn by_libopus(a: &Asked) -> Given {
         );
         (coded, libopus::ec_tell_frac(&mut c))
     };
-    let left = ec_ctx_saved {
-        storage: c.storage, end_offs: c.end_offs, end_window: c.end_window, nend_bits: c.nend_bits, nbits_total: c.nbits_total, offs: c.offs,
-        rng: c.rng, val: c.val, ext: c.ext, rem: c.rem, error: c.error,
-    };
+    let left = states::saved_back(&c);
     let tell = (c.nbits_total - (32 - c.rng.leading_zeros() as i32)) as u32;
     Given { coded, balance, intensity, dual, lists, bytes, at: coder::numbers(&left), tell, frac }
 }
@@ -212,8 +206,8 @@ impl Asked {
     pub fn given(&self) -> Result<Given, u32> {
         match self.refusal() {
             0 => {
-                let given = by_crate(self);
-                assert!(given == by_libopus(self), "the crate and libopus differ at\n{}", self.line());
+                let given = by_crate(self, self.saved());
+                assert!(given == by_libopus(self, self.saved()), "the crate and libopus differ at\n{}", self.line());
                 Ok(given)
             }
             no => Err(no),

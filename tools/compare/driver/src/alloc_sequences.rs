@@ -74,8 +74,9 @@ fn recorded(line: &str) -> Asked {
     a
 }
 
-fn traffic() -> Vec<Sequence> {
-    include_str!("alloc_traffic.txt").lines().map(|line| vec![recorded(line).line()]).collect()
+/// The recorded calls, which both oracles answer as they were answered then.
+pub fn traffic() -> Vec<Asked> {
+    include_str!("alloc_traffic.txt").lines().map(recorded).collect()
 }
 
 // ---- numbers and lists by chance
@@ -247,11 +248,11 @@ fn reader_after(r: &mut Random, bytes: &mut [u8]) -> State {
 }
 
 /// An allocation read from bytes that no writer made.
-fn read_any(r: &mut Random) -> Sequence {
+pub fn read_any(r: &mut Random) -> Vec<Asked> {
     let storage = any_storage(r);
     let mut bytes = any_bytes(r, storage);
     let state = reader_after(r, &mut bytes);
-    vec![any_request(r, false, state, bytes).line()]
+    vec![any_request(r, false, state, bytes)]
 }
 
 /// The request to read what a writer left, after the symbols that stand before the allocation: its bytes are closed, and of one in four some are
@@ -276,7 +277,7 @@ fn read_back(r: &mut Random, a: &Asked, g: &Given, before: &[Symbol]) -> Asked {
 }
 
 /// An allocation written after a few symbols, and read back.
-fn write_any(r: &mut Random) -> Sequence {
+pub fn write_any(r: &mut Random) -> Vec<Asked> {
     let storage = any_storage(r);
     let mut bytes = vec![r.below(256) as u8; storage as usize];
     let mut c = entenc::ec_enc_init(&mut bytes);
@@ -291,7 +292,7 @@ fn write_any(r: &mut Random) -> Sequence {
     let a = any_request(r, true, state, bytes);
     let Ok(g) = a.given() else { panic!("refused: {}", a.line()) };
     let back = read_back(r, &a, &g, &before);
-    vec![a.line(), back.line()]
+    vec![a, back]
 }
 
 /// Two totals, from this one down and one eighth bit apart, of which one has another number of coded bands; or the request as it is.
@@ -312,7 +313,7 @@ fn to_an_edge(a: Asked) -> Vec<Asked> {
 }
 
 /// Two totals on either side of such an edge, written by a new writer or read from any bytes; most writers know of no narrow bandwidth.
-fn edge_any(r: &mut Random) -> Sequence {
+pub fn edge_any(r: &mut Random) -> Vec<Asked> {
     let writes = r.below(3) > 0;
     let storage = r.within(1, 60);
     let mut bytes = any_bytes(r, storage);
@@ -328,11 +329,11 @@ fn edge_any(r: &mut Random) -> Sequence {
         a.numbers.end = r.within(17, 19) as i32;
         a.numbers.intensity = a.numbers.end;
     }
-    to_an_edge(a).iter().map(Asked::line).collect()
+    to_an_edge(a)
 }
 
 /// A state by chance within its rule, whether or not symbols lead to it.
-fn any_state(r: &mut Random) -> Sequence {
+pub fn any_state(r: &mut Random) -> Vec<Asked> {
     let writes = r.below(2) == 0;
     let storage = any_storage(r);
     let rng = match r.below(8) {
@@ -358,7 +359,7 @@ fn any_state(r: &mut Random) -> Sequence {
         0,
     ];
     let bytes = any_bytes(r, storage);
-    vec![any_request(r, writes, state, bytes).line()]
+    vec![any_request(r, writes, state, bytes)]
 }
 
 // ---- refusals
@@ -523,7 +524,8 @@ fn two_wrong(list: &mut Vec<Asked>, a: &Asked) {
     }
 }
 
-fn refused() -> Vec<Sequence> {
+/// Requests at the domain's limits, one step outside them, and with two things wrong.
+pub fn refused() -> Vec<Asked> {
     let mut list = vec![];
     for writes in [false, true] {
         let a = plain(writes);
@@ -531,7 +533,7 @@ fn refused() -> Vec<Sequence> {
             family(&mut list, &a);
         }
     }
-    list.iter().map(|a| vec![a.line()]).collect()
+    list
 }
 
 /// How many of each family one seed makes.
@@ -541,13 +543,14 @@ const EDGES: usize = 40;
 const STATES: usize = 40;
 
 pub fn all(r: &mut Random) -> Vec<Sequence> {
-    let mut list = traffic();
+    let alone = |list: Vec<Asked>| list.into_iter().map(|a| vec![a]).collect::<Vec<_>>();
+    let mut list = alone(traffic());
     list.extend((0..READS).map(|_| read_any(r)));
     list.extend((0..WRITES).map(|_| write_any(r)));
     list.extend((0..EDGES).map(|_| edge_any(r)));
     list.extend((0..STATES).map(|_| any_state(r)));
-    list.extend(refused());
-    list
+    list.extend(alone(refused()));
+    list.iter().map(|asked| asked.iter().map(Asked::line).collect()).collect()
 }
 
 /// What the sequences reach, for the reader of the record.

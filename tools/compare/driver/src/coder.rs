@@ -5,16 +5,20 @@
 //!     B value logp      U value ft      R value bits      I symbol         writes            C    close
 //!     D place value     a byte is changed                                  O    a new reader over the bytes
 //!     b logp            u ft            r bits            i                reads
+//!     K state           a writer with these numbers                        k state    a reader, both over the bytes of the last S
 //!
 //! An answer is the request's letter, for a read its value, then the state: storage offs ends window waiting total rng val ext rem error,
 //! for a writer closed, then tell and tell_frac. The bytes in hex follow a close, and up to 60 of them every write. A refusal is X and
-//! its number. The state is in the port's encoding: rem is 256 where the crate has -1, error and closed are 0 or 1. T and D have no answer.
-use crate::Side;
+//! its number; that of tell or tell_frac stands in its place. The state is in the port's encoding: rem is 256 where the crate has -1, error and
+//! closed are 0 or 1. T and D have no answer.
+use crate::{refusals, states, Side};
 use oracle::celt::entcode::{ec_ctx_saved, ec_tell, ec_tell_frac};
 use oracle::celt::{entdec, entenc, laplace, quant_bands};
 use oracle::libopus;
+use std::sync::OnceLock;
 
-/// A call of the coder, inside the domain.
+/// A call of the coder.
+#[derive(Clone, Copy, Debug)]
 pub enum Call<'a> {
     Writer,
     PutBit(u32, u32),
@@ -33,14 +37,15 @@ pub enum Call<'a> {
 
 /// What a call leaves: its value (0 for a write, but of a Laplace value the one that counts as written), the state, tell and tell_frac.
 #[derive(Clone, Copy)]
-struct Left {
-    value: u32,
-    at: ec_ctx_saved,
-    tell: u32,
-    frac: u32,
+pub struct Left {
+    pub value: u32,
+    pub at: ec_ctx_saved,
+    pub tell: u32,
+    pub frac: u32,
 }
 
-fn by_crate(bytes: &mut [u8], at: ec_ctx_saved, call: &Call) -> Left {
+/// What the crate makes of a call that is not refused.
+pub fn by_crate(bytes: &mut [u8], at: ec_ctx_saved, call: &Call) -> Left {
     let mut c = match call {
         Call::Reader => entdec::ec_dec_init(bytes),
         _ => entenc::ec_enc_init(bytes),
@@ -71,13 +76,11 @@ fn by_crate(bytes: &mut [u8], at: ec_ctx_saved, call: &Call) -> Left {
     Left { value, at: c.save(), tell: ec_tell(&c) as u32, frac: ec_tell_frac(&c) }
 }
 
-fn by_libopus(bytes: &mut [u8], at: ec_ctx_saved, call: &Call) -> Left {
+/// What libopus makes of it.
+pub fn by_libopus(bytes: &mut [u8], at: ec_ctx_saved, call: &Call) -> Left {
     let buf = bytes.as_mut_ptr();
     let size = bytes.len() as u32;
-    let mut c = libopus::EcCtx {
-        buf, storage: at.storage, end_offs: at.end_offs, end_window: at.end_window, nend_bits: at.nend_bits,
-        nbits_total: at.nbits_total, offs: at.offs, rng: at.rng, val: at.val, ext: at.ext, rem: at.rem, error: at.error,
-    };
+    let mut c = states::lent(&at, bytes);
     let mut value = 0;
     let e = &mut c;
     // The bytes outlive the calls, and every number is one that the crate was given as well.
@@ -106,10 +109,7 @@ fn by_libopus(bytes: &mut [u8], at: ec_ctx_saved, call: &Call) -> Left {
         }
         ((e.nbits_total - (32 - e.rng.leading_zeros() as i32)) as u32, libopus::ec_tell_frac(e))
     };
-    let at = ec_ctx_saved {
-        storage: c.storage, end_offs: c.end_offs, end_window: c.end_window, nend_bits: c.nend_bits,
-        nbits_total: c.nbits_total, offs: c.offs, rng: c.rng, val: c.val, ext: c.ext, rem: c.rem, error: c.error,
-    };
+    let at = states::saved_back(&c);
     Left { value, at, tell, frac }
 }
 
@@ -124,7 +124,45 @@ pub fn numbers(at: &ec_ctx_saved) -> [u32; 11] {
 
 /// Is this one of the pairs of the coarse-energy model?
 fn is_pair(fs: u32, decay: u32) -> bool {
-    quant_bands::model_pairs().contains(&(fs, decay))
+    // A pair is made of two bytes, shifted by 7 and 6 bits.
+    static KNOWN: OnceLock<Vec<bool>> = OnceLock::new();
+    let known = KNOWN.get_or_init(|| {
+        let mut known = vec![false; 1 << 16];
+        quant_bands::model_pairs().iter().for_each(|(fs, decay)| known[((fs << 1) + (decay >> 6)) as usize] = true);
+        known
+    });
+    fs % 128 == 0 && decay % 64 == 0 && fs < 1 << 15 && decay < 1 << 14 && known[((fs << 1) + (decay >> 6)) as usize]
+}
+
+/// A table falls strictly to 0, and its first entry is below 2^ftb.
+fn falls(table: &[u8], ftb: u32) -> bool {
+    (table.first().map_or(0, |&x| x as u32) < 1 << ftb.min(8)) && table.windows(2).all(|w| w[1] < w[0]) && table.last() == Some(&0)
+}
+
+impl Call<'_> {
+    /// What document 01 says of a symbol's call: its lengths, its numbers, its lists.
+    pub fn domain(&self) -> (bool, bool, bool) {
+        let known = |ftb: u32| (1..=8).contains(&ftb);
+        match *self {
+            Call::PutBit(v, logp) => (true, v <= 1 && (1..=15).contains(&logp), true),
+            Call::PutTable(s, table, ftb) => (!table.is_empty(), known(ftb) && (s as usize) < table.len(), falls(table, ftb)),
+            Call::PutUniform(v, ft) => (true, 2 <= ft && v < ft, true),
+            Call::PutRaw(v, bits) => (true, (1..=25).contains(&bits) && (v as u64) < 1 << bits.min(32), true),
+            Call::GetBit(logp) => (true, (1..=15).contains(&logp), true),
+            Call::GetTable(table, ftb) => (!table.is_empty(), known(ftb), falls(table, ftb)),
+            Call::GetUniform(ft) => (true, 2 <= ft, true),
+            Call::GetRaw(bits) => (true, (1..=25).contains(&bits), true),
+            Call::PutLaplace(v, fs, decay) => (true, (-32768..=32767).contains(&v) && is_pair(fs, decay), true),
+            Call::GetLaplace(fs, decay) => (true, is_pair(fs, decay), true),
+            Call::Writer | Call::Reader | Call::Close => (true, true, true),
+        }
+    }
+
+    /// A call on a writer's state.
+    pub fn writes(&self) -> bool {
+        use Call::*;
+        matches!(self, Writer | PutBit(..) | PutTable(..) | PutUniform(..) | PutRaw(..) | PutLaplace(..) | Close)
+    }
 }
 
 /// Where a sequence stands.
@@ -153,49 +191,27 @@ impl Oracle {
         Oracle { bytes: vec![], table: vec![], ftb: 0, stage: Stage::Idle, at: ec_ctx_saved::default(), tell: 0, value: 0 }
     }
 
-    /// Document 01's refusals, in their order: 2, 1, 3, 12, 4. lengths, numbers and lists: what the call's own rule says of them.
+    /// Document 01's refusals; the call's own, of pulse words, stand in words.rs.
     pub fn refusal(&self, lengths: bool, numbers: bool, lists: bool) -> u32 {
-        if !lengths {
-            2
-        } else if !numbers {
-            1
-        } else if !lists {
-            3
-        } else if self.stage == Stage::Closed {
-            12
-        } else if self.tell > 8 * self.bytes.len() as u32 + 32 {
-            4
-        } else {
-            0
-        }
+        let room = self.tell <= 8 * self.bytes.len() as u32 + 32;
+        refusals::first(lengths, numbers, lists, 0, self.stage != Stage::Closed, room)
     }
 
     fn refusal_of(&self, call: &Call) -> u32 {
-        let falls = |table: &[u8], ftb: u32| {
-            (table.first().map_or(0, |&x| x as u32) < 1 << ftb.min(8)) && table.windows(2).all(|w| w[1] < w[0]) && table.last() == Some(&0)
-        };
-        let known = |ftb: u32| (1..=8).contains(&ftb);
-        match *call {
+        let (lengths, numbers, lists) = call.domain();
+        match call {
             Call::Writer | Call::Reader => (self.bytes.len() > 1275) as u32,
-            Call::PutBit(v, logp) => self.refusal(true, v <= 1 && (1..=15).contains(&logp), true),
-            Call::PutTable(s, table, ftb) => {
-                self.refusal(!table.is_empty(), known(ftb) && (s as usize) < table.len(), falls(table, ftb))
-            }
-            Call::PutUniform(v, ft) => self.refusal(true, 2 <= ft && v < ft, true),
-            Call::PutRaw(v, bits) => self.refusal(true, (1..=25).contains(&bits) && (v as u64) < 1 << bits.min(32), true),
             Call::Close => if self.stage == Stage::Closed { 12 } else { 0 },
-            Call::GetBit(logp) => self.refusal(true, (1..=15).contains(&logp), true),
-            Call::GetTable(table, ftb) => self.refusal(!table.is_empty(), known(ftb), falls(table, ftb)),
-            Call::GetUniform(ft) => self.refusal(true, 2 <= ft, true),
-            Call::GetRaw(bits) => self.refusal(true, (1..=25).contains(&bits), true),
-            Call::PutLaplace(v, fs, decay) => self.refusal(true, is_pair(fs, decay) && (-32768..=32767).contains(&v), true),
-            Call::GetLaplace(fs, decay) => self.refusal(true, is_pair(fs, decay), true),
+            _ => self.refusal(lengths, numbers, lists),
         }
     }
 
     /// The answer to a call: both oracles run it, unless it is refused.
     pub fn call(&mut self, letter: &str, call: Call) -> String {
-        let no = self.refusal_of(&call);
+        let no = match call {
+            Call::Writer | Call::Reader => self.refusal_of(&call),
+            _ => self.with_state(self.refusal_of(&call)),
+        };
         if no != 0 {
             return format!("X {no}");
         }
@@ -210,31 +226,78 @@ impl Oracle {
         self.at = left.at;
         self.tell = left.tell;
         self.value = left.value;
-        let reads = matches!(call, Call::GetBit(_) | Call::GetTable(..) | Call::GetUniform(_) | Call::GetRaw(_));
         self.stage = match call {
             Call::Writer => Stage::Writing,
             Call::Close => Stage::Closed,
             Call::Reader => Stage::Reading,
             _ => self.stage,
         };
-        let mut words = vec![letter.to_string()];
-        if reads {
-            words.push(left.value.to_string());
-        }
-        if matches!(call, Call::PutLaplace(..) | Call::GetLaplace(..)) {
-            words.push((left.value as i32).to_string());
-        }
-        words.extend(numbers(&left.at).iter().map(u32::to_string));
+        let value = match call {
+            Call::GetBit(_) | Call::GetTable(..) | Call::GetUniform(_) | Call::GetRaw(_) => format!("{letter} {}", left.value),
+            Call::PutLaplace(..) | Call::GetLaplace(..) => format!("{letter} {}", left.value as i32),
+            _ => letter.to_string(),
+        };
+        self.line(value, format!("{} {}", left.tell, left.frac))
+    }
+
+    /// The line of an answer: its letter and value, the state, what tell and tell_frac say, and the bytes where they are shown.
+    fn line(&self, value: String, told: String) -> String {
+        let mut words = vec![value];
+        words.extend(numbers(&self.at).iter().map(u32::to_string));
         if self.stage != Stage::Reading {
             words.push(((self.stage == Stage::Closed) as u32).to_string());
         }
-        words.push(left.tell.to_string());
-        words.push(left.frac.to_string());
+        words.push(told);
         let shows = self.stage == Stage::Closed || self.stage == Stage::Writing && self.bytes.len() <= 60;
         if shows && !self.bytes.is_empty() {
             words.push(self.bytes.iter().map(|b| format!("{b:02x}")).collect());
         }
         words.join(" ")
+    }
+
+    /// Does the state keep document 01's rule of a reader or of a writer?
+    fn state_ok(&self) -> bool {
+        let state = numbers(&self.at);
+        let [storage, offs, ends, _, waiting, total, rng, val, ext, rem, _] = state;
+        if self.stage == Stage::Reading {
+            return states::is_ok(&state);
+        }
+        let counts = storage <= 1275 && rng > 1 << 23 && rng <= 1 << 31 && waiting <= 32 && (33..=65535).contains(&total);
+        let places = offs as u64 + ends as u64 <= storage as u64;
+        counts && places && val as u64 + (rng as u64) < 1 << 32 && rem <= 256 && ext <= 65535
+    }
+
+    /// The number of a call's refusal once the state is looked at too: bytes unlike its storage are 2, and a rule that it breaks is 1 where no
+    /// length is wrong.
+    pub fn with_state(&self, no: u32) -> u32 {
+        if no == 2 || self.at.storage as usize != self.bytes.len() {
+            2
+        } else if !self.state_ok() {
+            1
+        } else {
+            no
+        }
+    }
+
+    /// A state that is handed in, and its line. Where it breaks its rule, tell and tell_frac are refused.
+    fn hand(&mut self, letter: &str, state: &states::State, stage: Stage) -> String {
+        self.at = states::saved(state);
+        if stage != Stage::Reading {
+            self.at.rem = if state[9] == 256 { -1 } else { self.at.rem };
+            self.at.error = -self.at.error;
+        }
+        self.stage = stage;
+        if !self.state_ok() {
+            return self.line(letter.to_string(), "X 1 X 1".to_string());
+        }
+        let mut c = entenc::ec_enc_init(&mut self.bytes);
+        c.restore(self.at);
+        let (tell, frac) = (ec_tell(&c) as u32, ec_tell_frac(&c));
+        // The bytes outlive the call.
+        let second = unsafe { libopus::ec_tell_frac(&mut states::lent(&self.at, &mut self.bytes)) };
+        assert!(frac == second, "the crate and libopus differ at '{letter}'");
+        self.tell = tell;
+        self.line(letter.to_string(), format!("{tell} {frac}"))
     }
 }
 
@@ -265,6 +328,11 @@ impl Side for Oracle {
                 self.stage = Stage::Idle;
                 Some(self.call(letter, Call::Reader))
             }
+            ("K", &[ref state @ .., closed]) if state.len() == 11 => {
+                let stage = if closed == 0 { Stage::Writing } else { Stage::Closed };
+                Some(self.hand(letter, state.try_into().expect("eleven numbers"), stage))
+            }
+            ("k", state) if state.len() == 11 => Some(self.hand(letter, state.try_into().expect("eleven numbers"), Stage::Reading)),
             ("C", []) if writes => Some(self.call(letter, Call::Close)),
             ("B", &[v, logp]) if writes => Some(self.call(letter, Call::PutBit(v, logp))),
             ("I", &[s]) if writes => Some(self.call(letter, Call::PutTable(s, &table, self.ftb))),

@@ -1,5 +1,5 @@
 //! Sequences of the range coder's requests: every kind of symbol, storages from 0 to 1,275, full buffers, long runs before a carry, bytes
-//! that range data and raw bits share, damaged bytes, reads past the end, and refusals.
+//! that range data and raw bits share, damaged bytes, reads past the end, refusals, and states that are handed in, good and bad.
 use crate::coder::{Oracle, Stage};
 use crate::random::Random;
 use crate::{Sequence, Side};
@@ -503,9 +503,147 @@ fn refused(r: &mut Random, list: &mut Vec<Sequence>) {
     }
 }
 
+/// Numbers that a state has instead, by their places: storage 0, offs 1, ends 2, window 3, waiting 4, total 5, rng 6, val 7, ext 8, rem 9, error 10,
+/// a writer's closed 11.
+type Changes<'a> = &'a [(usize, u32)];
+
+/// A request that hands a state in.
+fn state(letter: char, mut numbers: Vec<u32>, changes: Changes) -> String {
+    for &(at, v) in changes {
+        numbers[at] = v;
+    }
+    numbers.iter().fold(letter.to_string(), |line, v| format!("{line} {v}"))
+}
+
+/// A new writer over four bytes, changed.
+fn writer(changes: Changes) -> String {
+    state('K', vec![4, 0, 0, 0, 0, 33, 1 << 31, 0, 0, 256, 0, 0], changes)
+}
+
+/// A reader of four bytes, of which one is read, changed.
+fn reader(changes: Changes) -> String {
+    state('k', vec![4, 1, 0, 0, 0, 33, 1 << 31, 0x12345678, 7, 18, 0], changes)
+}
+
+impl Maker {
+    /// Asks each of the calls on one state, which is handed in again after a call that was taken.
+    fn try_all(&mut self, state: &str, calls: &[&str]) {
+        self.ask(state.to_string());
+        for call in calls {
+            if !self.ask(call.to_string()) {
+                self.ask(state.to_string());
+            }
+        }
+    }
+
+    fn ask_all(&mut self, lines: &[&str]) {
+        for line in lines {
+            self.ask(line.to_string());
+        }
+    }
+}
+
+/// Writers handed in, each clause of the rule broken by one and kept by as little, with every write and the close; tell is in K's own answer.
+fn written_states(_: &mut Random, list: &mut Vec<Sequence>) {
+    let calls = ["B 1 1", "I 1", "U 3 7", "R 5 3", "C"];
+    let changes: [Changes; 27] = [
+        &[], &[(6, 1 << 23)], &[(6, (1 << 23) + 1)], &[(6, (1 << 31) + 1)], &[(6, 0)], &[(4, 32)], &[(4, 33)], &[(5, 32)], &[(5, 96)], &[(5, 97)],
+        &[(5, 65535)], &[(5, 65536)], &[(1, 3), (2, 1)], &[(1, 3), (2, 2)], &[(1, u32::MAX), (2, 2)], &[(1, 2), (2, u32::MAX)],
+        &[(7, (1 << 31) - 1)], &[(7, 1 << 31)], &[(9, 0)], &[(9, 255)], &[(9, 257)], &[(8, 65535)], &[(8, 65536)], &[(10, 1)],
+        &[(11, 1)], &[(11, 1), (5, 97)], &[(11, 1), (5, 65536)],
+    ];
+    let mut m = Maker::new(4, 170);
+    m.ask_all(&["T 8 192 64 0"]);
+    for change in changes {
+        m.try_all(&writer(change), &calls);
+    }
+    list.push(m.lines);
+    // Bytes of another length, and a storage that is too large.
+    for (lent, change) in [(5, &[][..]), (5, &[(6, 1 << 23)]), (0, &[]), (1275, &[(0, 1275)]), (1276, &[(0, 1276)])] {
+        let mut m = Maker::new(lent, 170);
+        m.ask_all(&["T 8 192 64 0"]);
+        m.try_all(&writer(change), &calls);
+        list.push(m.lines);
+    }
+    // Two faults at once, of which one is a table's.
+    let mut m = Maker::new(4, 170);
+    for (table, symbol, change) in [
+        ("T 8 64 128 0", "I 3", &[][..]), ("T 8 64 128 0", "I 0", &[(6, 1 << 23)]), ("T 8 64 128 0", "I 0", &[(11, 1)]),
+        ("T 8 64 128 0", "I 0", &[(5, 97)]), ("T 9", "I 0", &[]), ("T 7 192 64 0", "I 0", &[]),
+    ] {
+        m.ask_all(&[table, &writer(change), symbol]);
+    }
+    list.push(m.lines);
+    // A carry through a held run of two, from a held byte below 255 and from 255.
+    for rem in [247, 255] {
+        let mut m = Maker::new(4, 170);
+        m.ask_all(&[&writer(&[(9, rem), (8, 2), (7, (1 << 31) + 5), (6, 1 << 24), (5, 60)]), "B 1 15", "C"]);
+        list.push(m.lines);
+    }
+}
+
+/// Readers handed in, each clause of the rule broken by one and kept at its last number, with every read; tell is in k's own answer.
+fn read_states(_: &mut Random, list: &mut Vec<Sequence>) {
+    let calls = ["b 1", "i", "u 257", "r 9"];
+    let low = (6, (1 << 23) + 1);
+    let changes: [Changes; 27] = [
+        &[], &[(6, 1 << 23), (7, 0)], &[low, (7, 0)], &[(6, (1 << 31) + 1)], &[(6, 0), (7, 0)], &[(7, 1 << 31)], &[(7, (1 << 31) - 1)], &[(1, 5)],
+        &[(1, 4)], &[(2, 5)], &[(2, 4)], &[(4, 33)], &[(3, 4275878552), (4, 32)], &[(9, 256)], &[(9, 255)], &[(5, 32)], &[(5, 65536)],
+        &[(5, 65535), low, (7, 0)], &[(5, 96)], &[(5, 97)], &[(5, 100), (6, 1000000000)], &[low, (7, 3), (9, 1)], &[low, (7, 3), (9, 2)],
+        &[(7, 0)], &[(7, 0), (10, 1)], &[(3, u32::MAX), (4, 3)], &[(0, 3)],
+    ];
+    let packet = ["D 0 18", "D 1 52", "D 2 86", "D 3 255"];
+    let mut m = Maker::new(4, 0);
+    m.ask_all(&packet);
+    m.ask_all(&["T 2 3 1 0"]);
+    for change in changes {
+        m.try_all(&reader(change), &calls);
+    }
+    m.ask_all(&[&reader(&[(7, 3)]), "b 15", &reader(&[(7, 0), (10, 1)]), "u 5"]);
+    m.ask_all(&[&reader(&[(1, 4), (2, 4), (6, 1 << 24), (7, 1)]), "u 4294967295"]);
+    list.push(m.lines);
+    // Two faults at once: the first of 2, 1, 3, 4 is given.
+    let mut m = Maker::new(4, 0);
+    m.ask_all(&packet);
+    for (table, call, change) in [
+        ("T 2 1 2 0", "b 1", &[(0, 3), (5, 32)][..]), ("T 2 1 2 0", "b 0", &[(0, 3)]), ("T 2 1 2 0", "i", &[(0, 3)]),
+        ("T 2 1 2 0", "r 1", &[(0, 3), (5, 200)]), ("T 2", "i", &[(9, 256)]), ("T 9", "i", &[]), ("T 2 1 2 0", "i", &[(5, 32)]),
+        ("T 9 1 2 0", "i", &[]), ("T 2 1 2 0", "u 1", &[(5, 200)]), ("T 2 1 2 0", "i", &[(5, 200)]), ("T 2 3 0 1", "i", &[]),
+    ] {
+        m.ask_all(&[table, &reader(change), call]);
+    }
+    list.push(m.lines);
+    // The largest storage, one larger, and none, where zeros are read.
+    for (storage, change) in [(1275, &[(0, 1275)][..]), (1276, &[(0, 1276)]), (0, &[(0, 0), (1, 0), low, (7, 1 << 23)])] {
+        let mut m = Maker::new(storage, 0);
+        m.ask_all(&["T 2 3 1 0"]);
+        m.try_all(&reader(change), &calls);
+        m.ask_all(&["r 25"]);
+        list.push(m.lines);
+    }
+    // Reads of every kind, one after the other.
+    let mut m = Maker::new(8, 0);
+    m.ask_all(&["D 0 201", "D 1 17", "D 2 64", "D 3 250", "D 4 33", "D 5 144", "D 6 8", "D 7 91", "O", "b 3", "T 2 3 1 0", "i"]);
+    m.ask_all(&["u 100", "r 7", "u 70000", "r 25", "b 15"]);
+    list.push(m.lines);
+}
+
+/// Short messages of every kind, with calls after the close, and with more than fits.
+fn messages(_: &mut Random, list: &mut Vec<Sequence>) {
+    for (storage, lines) in [
+        (8, &["B 1 3", "T 8 192 64 0", "I 1", "U 6 7", "U 69999 70000", "R 341 9", "B 1 15", "C", "B 1 3", "C"][..]),
+        (1, &["R 85 7", "B 1 15", "C"]),
+        (0, &["R 1 1", "C"]),
+    ] {
+        let mut m = Maker::new(storage, 170);
+        m.ask_all(lines);
+        list.push(m.lines);
+    }
+}
+
 pub fn all(r: &mut Random) -> Vec<Sequence> {
     let mut list = vec![];
-    for family in [plain, single, full, carries, shared, damaged, past_the_end, refused] {
+    for family in [plain, single, full, carries, shared, damaged, past_the_end, refused, written_states, messages, read_states] {
         family(r, &mut list);
     }
     list
@@ -520,13 +658,16 @@ pub fn figures(sequences: &[Sequence]) -> Vec<String> {
     for sequence in sequences {
         let mut o = Oracle::new();
         let (mut run, mut carry, mut wm, mut cm, mut rm, mut p) = (0, 0, false, false, false, false);
+        let mut handed = false;
         for line in sequence {
             let before = o.clone();
             let answer = o.answer(line);
             let letter = line.split(' ').next().unwrap_or("").to_string();
             let refused = answer.filter(|a| a.starts_with('X'));
             *calls.entry(refused.clone().unwrap_or(letter.clone())).or_default() += 1;
-            if refused.is_some() {
+            // Of what follows a state that was handed in, nothing but the calls is counted.
+            handed |= matches!(letter.as_str(), "K" | "k");
+            if refused.is_some() || handed {
                 continue;
             }
             if letter == "S" {

@@ -9,9 +9,9 @@
 //!
 //! An answer is the request's letter and the state after the call as in coder.rs; a refusal is X and its number. Then, of both, | and each energy by
 //! the eight hex digits of its bits; of a NaN, whose bits tell nothing, 7fc00000.
-use crate::states::{self, State};
-use crate::{coder, Side};
-use oracle::celt::entcode::{ec_tell, ec_tell_frac};
+use crate::states::{self, List, State};
+use crate::{coder, refusals, Side};
+use oracle::celt::entcode::{ec_ctx_saved, ec_tell, ec_tell_frac};
 use oracle::celt::{entdec, modes, quant_bands};
 use oracle::libopus;
 
@@ -45,7 +45,8 @@ fn listed<T: ToString>(list: &[T]) -> String {
     list.iter().map(|v| format!(" {}", v.to_string())).collect()
 }
 
-fn bits_of(x: &[f32]) -> Vec<u32> {
+/// Bits; of a NaN, whose bits tell nothing, always the same.
+pub fn bits_of(x: &[f32]) -> Vec<u32> {
     x.iter().map(|v| if v.is_nan() { 0x7fc0_0000 } else { v.to_bits() }).collect()
 }
 
@@ -88,28 +89,31 @@ impl Asked {
 
     /// Document 01's number of the refusal, 0 for none: 2, 1, 3, 4, whichever is met first.
     pub fn refusal(&self) -> u32 {
+        self.refusal_of(&states::list(&self.state, 0, false), true, 0)
+    }
+
+    /// The same with another state, and what a record's frame has beside it: whether its numbers are of the domain, and its own refusal.
+    pub fn refusal_of(&self, list: &List, frames: bool, own: u32) -> u32 {
         let bands = (1..=2).contains(&self.c) && 0 <= self.start && self.start < self.end && self.end <= 21;
         let numbers = bands && (!self.coarse || (0..=3).contains(&self.lm) && (0..=1).contains(&self.intra));
         let lists = self.coarse || [self.fine.len(), self.priorities.len()] == [21; 2];
         let fines = self.fine.iter().all(|v| (0..=8).contains(v)) && self.priorities.iter().all(|v| (0..=1).contains(v));
-        if self.state[0] as usize != self.bytes.len() || self.energies.len() != 42 || !lists {
-            2
-        } else if !states::is_ok(&self.state) || !numbers {
-            1
-        } else if !self.floats().iter().all(|x| x.is_finite()) || !(self.coarse || fines) {
-            3
-        } else if states::tell(&self.state) > 8 * self.state[0] + 32 {
-            4
-        } else {
-            0
-        }
+        refusals::first(
+            list[0] == self.bytes.len() as i64 && self.energies.len() == 42 && lists,
+            states::list_ok(list, false) && numbers && frames,
+            self.energies.iter().all(|&v| f32::from_bits(v).is_finite()) && (self.coarse || fines),
+            own,
+            true,
+            states::list_tell(list) <= 8 * self.bytes.len() as i64 + 32,
+        )
     }
 
-    fn by_crate(&self) -> Given {
+    /// The crate's answer to a request that is not refused, from a reader's state.
+    pub fn by_crate(&self, at: ec_ctx_saved) -> Given {
         let (mut x, mut bytes) = (self.floats(), self.bytes.clone());
         let (mut fine, mut priorities) = (self.fine.clone(), self.priorities.clone());
         let mut c = entdec::ec_dec_init(&mut bytes);
-        c.restore(states::saved(&self.state));
+        c.restore(at);
         // There are 42 energies, and for F 21 fine bits and priorities.
         unsafe {
             let mode = modes::opus_custom_mode_create(48000, 960, &mut 0);
@@ -123,10 +127,11 @@ impl Asked {
         Given { energies: bits_of(&x), state: coder::numbers(&c.save()), tell: ec_tell(&c) as u32, frac: ec_tell_frac(&c) }
     }
 
-    fn by_libopus(&self) -> Given {
+    /// libopus' answer to such a request.
+    pub fn by_libopus(&self, at: ec_ctx_saved) -> Given {
         let (mut x, mut bytes) = (self.floats(), self.bytes.clone());
         let (mut fine, mut priorities) = (self.fine.clone(), self.priorities.clone());
-        let mut c = states::lent(&self.state, &mut bytes);
+        let mut c = states::lent(&at, &mut bytes);
         // As above; the bytes outlive the calls.
         let frac = unsafe {
             let mode = libopus::opus_custom_mode_create(48000, 960, &mut 0);
@@ -146,8 +151,9 @@ impl Asked {
     pub fn given(&self) -> Result<Given, u32> {
         match self.refusal() {
             0 => {
-                let given = self.by_crate();
-                assert!(given == self.by_libopus(), "the crate and libopus differ at '{}'", self.line());
+                let at = states::saved(&self.state);
+                let given = self.by_crate(at);
+                assert!(given == self.by_libopus(at), "the crate and libopus differ at '{}'", self.line());
                 Ok(given)
             }
             no => Err(no),

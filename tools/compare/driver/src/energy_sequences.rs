@@ -63,7 +63,7 @@ fn energy(r: &mut Random) -> u32 {
     r.one_of(&[usual, usual, usual, usual, usual, odd])
 }
 
-fn energies(r: &mut Random) -> Vec<u32> {
+pub fn energies(r: &mut Random) -> Vec<u32> {
     (0..42).map(|_| energy(r)).collect()
 }
 
@@ -92,7 +92,8 @@ fn lists(r: &mut Random) -> (Vec<i32>, Vec<i32>) {
     ((0..21).map(|_| r.within(0, most) as i32).collect(), (0..21).map(|_| r.below(2) as i32).collect())
 }
 
-fn asked(r: &mut Random, coarse: bool, storage: u32) -> Asked {
+/// A call over a new reader of so many bytes.
+pub fn asked(r: &mut Random, coarse: bool, storage: u32) -> Asked {
     let (bytes, state) = packet(r, storage);
     let (start, end) = bands(r);
     let (fine, priorities) = if coarse { (vec![], vec![]) } else { lists(r) };
@@ -289,12 +290,17 @@ fn orders(r: &mut Random, list: &mut Vec<Asked>) {
     }
 }
 
-pub fn all(r: &mut Random) -> Vec<Sequence> {
+/// All families.
+pub fn requests(r: &mut Random) -> Vec<Asked> {
     let mut list = vec![];
     for family in [traffic, chance, edges, runs, empty, numbers, odd_energies, odd_lists, lengths, broken, orders] {
         family(r, &mut list);
     }
-    list.iter().map(|a| vec![a.line()]).collect()
+    list
+}
+
+pub fn all(r: &mut Random) -> Vec<Sequence> {
+    requests(r).iter().map(|a| vec![a.line()]).collect()
 }
 
 /// What the requests reach, for the reader of the record.

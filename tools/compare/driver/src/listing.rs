@@ -6,12 +6,17 @@ use crate::{coder, Side};
 use oracle::celt::entdec;
 use oracle::libopus;
 
-/// A strict decimal: no plus, no leading zero, a minus only before a nonzero figure; None where it is not one, or beyond 32 bits.
-fn decimal(text: &str) -> Option<i32> {
+/// A strict decimal: no plus, no leading zero, a minus only before a nonzero figure; None where it is not one, or beyond 64 bits.
+pub fn strict(text: &str) -> Option<i64> {
     let figures = text.strip_prefix('-').unwrap_or(text);
     let plain = !figures.is_empty() && figures.bytes().all(|b| b.is_ascii_digit());
     let needless = figures.starts_with('0') && text != "0";
     if plain && !needless { text.parse().ok() } else { None }
+}
+
+/// One of 32 bits.
+fn decimal(text: &str) -> Option<i32> {
+    strict(text)?.try_into().ok()
 }
 
 /// The bytes of an even number of lowercase hex digits.

@@ -134,6 +134,17 @@ fn damaged(r: &mut Random) -> String {
     line.into_iter().collect()
 }
 
+/// A line by chance: mostly a request of the domain, some of them damaged.
+pub fn any_line(r: &mut Random) -> String {
+    if r.below(4) == 0 { damaged(r) } else { any_request(r).line() }
+}
+
+/// Lines that do not depend on chance: recorded packets, the domain's limits, every kind of malformed line.
+pub fn fixed_lines() -> Vec<String> {
+    let lines = |list: Vec<Fields>| list.iter().map(Fields::line).collect::<Vec<String>>();
+    [lines(recorded()), lines(limits()), malformed()].concat()
+}
+
 pub fn all(r: &mut Random) -> Vec<Sequence> {
     let mut lines = vec![fields([1, 0, 0, 1, 5, 64], "00").line()];
     lines.extend((0..120).map(|_| any_request(r).line()));

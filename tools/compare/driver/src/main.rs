@@ -1,31 +1,7 @@
-//! Records the oracles' answers, and holds a program's answers against them. Each kind of request is a module: it makes request lines
-//! from a seed, and it answers a line as the oracles do.
-mod alloc;
-mod alloc_sequences;
-mod coder;
-mod coder_sequences;
-mod energy;
-mod energy_sequences;
-mod laplace_sequences;
-mod listing;
-mod listing_sequences;
-mod pulse_sequences;
-mod random;
-mod shape;
-mod shape_sequences;
-mod states;
-mod words;
-
+//! The program: --record, --answer and --compare of request lines, for each kind that the library has.
+use driver::*;
 use std::io::{Read, Write};
 use std::process::{Command, Stdio};
-
-/// Request lines that stand for themselves: no answer depends on an earlier sequence.
-pub type Sequence = Vec<String>;
-
-/// Whoever answers request lines. A line that only prepares a later one has no answer; an answer may have several lines.
-pub trait Side {
-    fn answer(&mut self, line: &str) -> Option<String>;
-}
 
 /// A kind of request: what --record, --answer and --compare need to know of it.
 struct Kind {
@@ -47,9 +23,9 @@ const KINDS: [Kind; 6] = [
     },
     Kind {
         name: "words",
-        sequences: |r| [laplace_sequences::all(r), pulse_sequences::all(r)].concat(),
+        sequences: |r| [laplace_sequences::all(r), pulse_sequences::all(r), lookups::all(r)].concat(),
         oracle: || Box::new(words::Oracle::new()),
-        figures: |list| [laplace_sequences::figures(list), pulse_sequences::figures(list)].concat(),
+        figures: |list| [laplace_sequences::figures(list), pulse_sequences::figures(list), lookups::figures(list)].concat(),
         open_end: false,
     },
     Kind {

@@ -1,21 +1,28 @@
 //! Sequences of pulse words: every pair N 2..176, K 1..128 whose V(N,K) is below 2^32 and in the oracles' tables, with the first vector, the
-//! last, a middle one and one by chance; damaged bytes, of which some give a number that is too high; refusals. 24 pairs are left out: their
-//! counts are in neither oracle's table, and libopus would read past its end.
+//! last, a middle one and one by chance; damaged bytes, of which some give a number that is too high; refusals; states that are handed in. 24
+//! pairs are left out: their counts are in neither oracle's table, and libopus would read past its end.
 use crate::random::Random;
 use crate::words::{count, Maker, Oracle};
 use crate::{Sequence, Side};
 use oracle::celt::{cwrs, entdec, entenc};
+use std::sync::OnceLock;
 
-type Pair = (u32, u32);
+pub type Pair = (u32, u32);
 
 /// The pairs whose count is below 2^32, and whether the oracles have them.
-fn pairs(known: bool) -> Vec<Pair> {
+pub fn pairs(known: bool) -> Vec<Pair> {
     let all = (2..=176).flat_map(|n| (1..=128).map(move |k| (n, k)));
     all.filter(|&(n, k)| count(n, k).is_some() && cwrs::has_count(n, k) == known).collect()
 }
 
+/// All of them, those of the oracles first.
+pub fn counted() -> &'static [Pair] {
+    static PAIRS: OnceLock<Vec<Pair>> = OnceLock::new();
+    PAIRS.get_or_init(|| [pairs(true), pairs(false)].concat())
+}
+
 /// The vector with that number, by libopus.
-fn vector(pair: Pair, number: u32, ft: u32) -> Vec<i32> {
+pub fn vector(pair: Pair, number: u32, ft: u32) -> Vec<i32> {
     let mut bytes = [0; 16];
     let mut c = entenc::ec_enc_init(&mut bytes);
     entenc::ec_enc_uint(&mut c, number, ft);
@@ -31,7 +38,7 @@ impl Maker {
     fn lay(&mut self, places: &[i32]) {
         self.ask("Z".to_string());
         for (place, v) in places.iter().enumerate().filter(|(_, &v)| v != 0) {
-            self.ask(format!("{} {place} {}", if *v < 0 { 'M' } else { 'A' }, v.unsigned_abs()));
+            self.ask(format!("A {place} {v}"));
         }
     }
 
@@ -114,11 +121,11 @@ fn refused(_: &mut Random, list: &mut Vec<Sequence>) {
     let asked = ["1 1", "0 1", "177 1", "2 0", "2 129", "176 5", "110 5", "15 14", "6 96", "176 128", "4294967295 1", "2 4294967295", "2 1", "2 2", "3 2"];
     for storage in [0, 1, 40] {
         let mut m = Maker::new(storage, 0);
-        m.ask_all(&["Z", "A 0 1", "M 2 1"]);
+        m.ask_all(&["Z", "A 0 1", "A 2 -1"]);
         for line in asked {
             m.ask(format!("W {line}"));
         }
-        m.ask_all(&["A 1 2147483647", "A 175 2147483647", "W 2 1", "W 176 1", "Z", "M 175 128", "W 176 4", "W 175 4", "M 175 4"]);
+        m.ask_all(&["A 1 2147483647", "A 175 2147483647", "W 2 1", "W 176 1", "Z", "A 175 -128", "W 176 4", "W 175 4", "A 175 -4"]);
         m.ask_all(&["W 176 4", "W 176 4", "W 176 4", "C", "W 176 4", "W 176 3", "W 176 5", "W 177 4", "O"]);
         for line in asked {
             m.ask(format!("w {line}"));
@@ -127,9 +134,26 @@ fn refused(_: &mut Random, list: &mut Vec<Sequence>) {
     }
 }
 
+/// States that break their rule and bytes of another length than the storage, before and after each other refusal.
+fn states(_: &mut Random, list: &mut Vec<Sequence>) {
+    for (storage, rng) in [(4, 1u32 << 31), (4, 1 << 23), (5, 1 << 31), (5, 1 << 23)] {
+        let mut m = Maker::new(4, 0);
+        m.ask_all(&["Z", "A 0 1"]);
+        for (total, closed) in [(33, 0), (97, 0), (97, 1)] {
+            m.ask(format!("K {storage} 0 0 0 0 {total} {rng} 0 0 256 0 {closed}"));
+            m.ask_all(&["W 1 1", "W 6 96", "W 2 2", "W 2 1"]);
+        }
+        for total in [33, 97] {
+            m.ask(format!("k {storage} 4 0 0 0 {total} {rng} 0 0 0 0"));
+            m.ask_all(&["w 1 1", "w 6 96", "w 2 1"]);
+        }
+        list.push(m.lines);
+    }
+}
+
 pub fn all(r: &mut Random) -> Vec<Sequence> {
     let mut list = vec![];
-    for family in [every_pair, too_high, any_bytes, refused] {
+    for family in [every_pair, too_high, any_bytes, refused, states] {
         family(r, &mut list);
     }
     list

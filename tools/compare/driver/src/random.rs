@@ -24,7 +24,7 @@ impl Random {
         least + (self.next() % (most as u64 - least as u64 + 1)) as u32
     }
 
-    pub fn one_of(&mut self, list: &[u32]) -> u32 {
+    pub fn one_of<T: Copy>(&mut self, list: &[T]) -> T {
         list[self.below(list.len() as u32) as usize]
     }
 }

@@ -8,10 +8,10 @@
 //!
 //! Before the call every lent place holds 0.5. An answer is U, the collapse mask and the state after the call as in coder.rs; a refusal is X and
 //! its number. Then, of both, | and each place by the eight hex digits of its bits.
-use crate::states::{self, State};
+use crate::states::{self, List, State};
 use crate::words::count;
-use crate::{coder, Side};
-use oracle::celt::entcode::{ec_tell, ec_tell_frac};
+use crate::{coder, refusals, Side};
+use oracle::celt::entcode::{ec_ctx_saved, ec_tell, ec_tell_frac};
 use oracle::celt::{cwrs, entdec, vq};
 use oracle::libopus;
 
@@ -38,7 +38,7 @@ pub struct Given {
     pub frac: u32,
 }
 
-fn bits_of(x: &[f32]) -> Vec<u32> {
+pub fn bits_of(x: &[f32]) -> Vec<u32> {
     x.iter().map(|v| v.to_bits()).collect()
 }
 
@@ -77,40 +77,48 @@ impl Asked {
 
     /// Document 01's number of the refusal, 0 for none: 2, 1, 3, 7, 9, 4, whichever is met first.
     pub fn refusal(&self) -> u32 {
-        if self.state[0] as usize != self.bytes.len() || self.n as i64 != self.places as i64 {
-            2
-        } else if !states::is_ok(&self.state) || !self.numbers_ok() {
-            1
-        } else if !(f32::from_bits(self.gain).abs() <= 1.0) {
-            3
-        } else if count(self.n as u32, self.k as u32).is_none() {
+        self.refusal_of(&states::list(&self.state, 0, false))
+    }
+
+    /// The same with another state.
+    pub fn refusal_of(&self, list: &List) -> u32 {
+        let numbers = self.numbers_ok();
+        let own = if numbers && count(self.n as u32, self.k as u32).is_none() {
             7
-        } else if 2 * self.k < self.n && self.spread != 0 {
+        } else if numbers && 2 * self.k < self.n && self.spread != 0 {
             9
-        } else if states::tell(&self.state) > 8 * self.state[0] + 32 {
-            4
         } else {
             0
-        }
+        };
+        refusals::first(
+            list[0] == self.bytes.len() as i64 && self.n as i64 == self.places as i64,
+            states::list_ok(list, false) && numbers,
+            f32::from_bits(self.gain).abs() <= 1.0,
+            own,
+            true,
+            states::list_tell(list) <= 8 * self.bytes.len() as i64 + 32,
+        )
     }
 
     /// The lent shape before the call.
-    fn lent(&self) -> Vec<f32> {
+    pub fn lent(&self) -> Vec<f32> {
         vec![0.5; self.places]
     }
 
-    fn by_crate(&self) -> Given {
+    /// The crate's answer to a request that is not refused, from a reader's state; libopus' decode_pulses reads the vector.
+    pub fn by_crate(&self, at: ec_ctx_saved) -> Given {
         let (mut x, mut bytes) = (self.lent(), self.bytes.clone());
         let mut c = entdec::ec_dec_init(&mut bytes);
-        c.restore(states::saved(&self.state));
+        c.restore(at);
         // The shape has N places, and the tables have the count.
         let mask = unsafe { vq::alg_unquant(x.as_mut_ptr(), self.n, self.k, self.spread, self.b, &mut c, f32::from_bits(self.gain)) };
         Given { mask, shape: bits_of(&x), state: coder::numbers(&c.save()), tell: ec_tell(&c) as u32, frac: ec_tell_frac(&c) }
     }
 
-    fn by_libopus(&self) -> Given {
+    /// libopus' answer to such a request.
+    pub fn by_libopus(&self, at: ec_ctx_saved) -> Given {
         let (mut x, mut bytes) = (self.lent(), self.bytes.clone());
-        let mut c = states::lent(&self.state, &mut bytes);
+        let mut c = states::lent(&at, &mut bytes);
         // As above; the bytes outlive the calls.
         let (mask, frac) = unsafe {
             let mask = libopus::alg_unquant(x.as_mut_ptr(), self.n, self.k, self.spread, self.b, &mut c, f32::from_bits(self.gain));
@@ -125,8 +133,9 @@ impl Asked {
         match self.refusal() {
             0 => {
                 assert!(cwrs::has_count(self.n as u32, self.k as u32), "V({}, {}) is not in the oracles' tables", self.n, self.k);
-                let given = self.by_crate();
-                assert!(given == self.by_libopus(), "the crate and libopus differ at '{}'", self.line());
+                let at = states::saved(&self.state);
+                let given = self.by_crate(at);
+                assert!(given == self.by_libopus(at), "the crate and libopus differ at '{}'", self.line());
                 Ok(given)
             }
             no => Err(no),

@@ -74,7 +74,8 @@ fn packet(r: &mut Random, storage: u32) -> (Vec<u8>, states::State) {
     (bytes, state)
 }
 
-fn asked(r: &mut Random, n: u32, k: u32, storage: u32) -> Asked {
+/// A call over a new reader of so many bytes; no rotation is due.
+pub fn asked(r: &mut Random, n: u32, k: u32, storage: u32) -> Asked {
     let (bytes, state) = packet(r, storage);
     let spread = if 2 * k < n { 0 } else { r.below(4) };
     let b = parts(r, n);
@@ -239,11 +240,17 @@ fn orders(r: &mut Random, list: &mut Vec<Asked>) {
     list.push(Asked { n: 176, places: 176, k: 5, spread: 1, ..g });
 }
 
-pub fn all(r: &mut Random) -> Vec<Sequence> {
+/// All families.
+pub fn requests(r: &mut Random) -> Vec<Asked> {
     let mut list = vec![];
     for family in [traffic, every, runs, limits, numbers, gains, lengths, broken, orders] {
         family(r, &mut list);
     }
+    list
+}
+
+pub fn all(r: &mut Random) -> Vec<Sequence> {
+    let list = requests(r);
     // Pairs whose count is in neither oracle's table are left out.
     let known = |a: &Asked| a.refusal() != 0 || cwrs::has_count(a.n as u32, a.k as u32);
     list.iter().filter(|a| known(a)).map(|a| vec![a.line()]).collect()

@@ -1,15 +1,19 @@
-//! Requests of Laplace values and pulse words. The crate answers Laplace values, and libopus must agree. The crate has no encode_pulses and no
-//! decode_pulses, so that libopus alone answers pulse words. S, D, C and O are the range coder's requests (coder.rs), with its answers.
+//! Requests of Laplace values, pulse words and the allocation's lookups. The crate answers Laplace values, and libopus must agree. The crate
+//! has no encode_pulses and no decode_pulses, so that libopus alone answers pulse words. Lookups are the crate's (lookups.rs). S, D, C, O, K and k
+//! are the range coder's requests (coder.rs), with its answers.
 //!
-//!     P fs decay     the pair of later L, N and l
-//!     L size         writes the value size          N size          writes minus size              l        reads a value
-//!     Z              the 176 places are zero        A place size    one is size    M place size    one is minus size
-//!     W n k          writes the vector in the first n places        w n k    reads one into them
+//!     P fs decay        the pair of later L and l
+//!     L value           writes a value                                  l        reads one
+//!     Z                 the 176 places are zero                         A place value    one is the value
+//!     W n k             writes the vector in the first n places         w n k    reads one into them
+//!     G i               get_pulses
+//!     B band LM bits    bits2pulses                                     b band LM pulses    pulses2bits
 //!
-//! Of L, N and l the answer is the letter, the value that counts as written or was read, and the state as in coder.rs. Of W it is the
+//! Of L and l the answer is the letter, the value that counts as written or was read, and the state as in coder.rs. Of W it is the
 //! letter, total, rng and val; of w the letter, the energy, error, total, rng and val, and then each place of the 176 that is not zero,
-//! with its value. P, Z, A and M have no answer.
+//! with its value. Of a lookup it is the letter and what was found. P, Z and A have no answer.
 use crate::coder::{self, Call, Stage};
+use crate::lookups;
 use crate::random::Random;
 use crate::{Sequence, Side};
 use oracle::celt::entcode::ec_tell;
@@ -32,8 +36,18 @@ pub fn count(n: u32, k: u32) -> Option<u32> {
 }
 
 /// N 2..176 and K 1..128.
-fn in_domain(n: u32, k: u32) -> bool {
+pub fn in_domain(n: u32, k: u32) -> bool {
     (2..=176).contains(&n) && (1..=128).contains(&k)
+}
+
+/// A vector's own refusal, of N and K in their domain: 7 where the count is 2^32 or more, 8 where a vector to write has another sum; 0 for none.
+pub fn own_refusal(places: &[i32], n: u32, k: u32, writes: bool) -> u32 {
+    let pulses = || places[..n as usize].iter().map(|v| v.unsigned_abs() as u64).sum::<u64>();
+    match count(n, k) {
+        None => 7,
+        Some(_) if writes && pulses() != k as u64 => 8,
+        _ => 0,
+    }
 }
 
 /// The oracles' side of a sequence.
@@ -51,22 +65,14 @@ impl Oracle {
 
     /// Document 01's refusals of a vector's call. own: its own, 7 or 8, which 2, 1 and 3 go before.
     fn refusal(&self, n: u32, k: u32, own: u32) -> u32 {
-        match self.coder.refusal(true, in_domain(n, k), true) {
+        match self.coder.with_state(self.coder.refusal(true, in_domain(n, k), true)) {
             0 | 4 | 12 if own != 0 => own,
             no => no,
         }
     }
 
     fn own(&self, n: u32, k: u32, writes: bool) -> u32 {
-        if !in_domain(n, k) {
-            return 0;
-        }
-        let pulses: u64 = self.places[..n as usize].iter().map(|v| v.unsigned_abs() as u64).sum();
-        match count(n, k) {
-            None => 7,
-            Some(_) if writes && pulses != k as u64 => 8,
-            _ => 0,
-        }
+        if in_domain(n, k) { own_refusal(&self.places, n, k, writes) } else { 0 }
     }
 
     fn put_vector(&mut self, n: u32, k: u32) -> String {
@@ -101,37 +107,35 @@ impl Oracle {
         format!("w {energy} {} {} {} {}{placed}", (at.error != 0) as u32, at.nbits_total, at.rng, at.val)
     }
 
-    fn place(&mut self, place: u32, value: i32) -> Option<String> {
-        self.places[place as usize] = value;
-        None
-    }
 }
 
 impl Side for Oracle {
     fn answer(&mut self, line: &str) -> Option<String> {
         let mut words = line.split(' ');
         let letter = words.next().unwrap_or("");
-        let n: Vec<u32> = words.map(|w| w.parse().unwrap_or_else(|_| panic!("'{line}' is no request"))).collect();
+        let n: Vec<i64> = words.map(|w| w.parse().unwrap_or_else(|_| panic!("'{line}' is no request"))).collect();
         let (fs, decay) = self.pair;
         let writes = matches!(self.coder.stage, Stage::Writing | Stage::Closed);
         let reads = self.coder.stage == Stage::Reading;
         match (letter, n.as_slice()) {
-            ("S" | "D" | "C" | "O", _) => self.coder.answer(line),
+            ("S" | "D" | "C" | "O" | "K" | "k", _) => self.coder.answer(line),
+            ("G" | "B" | "b", n) => Some(lookups::answer(letter, n)),
             ("P", &[fs, decay]) => {
-                self.pair = (fs, decay);
+                self.pair = (fs as u32, decay as u32);
                 None
             }
             ("Z", []) => {
                 self.places = [0; 176];
                 None
             }
-            ("A", &[place, size]) => self.place(place, size as i32),
-            ("M", &[place, size]) => self.place(place, -(size as i32)),
-            ("L", &[size]) if writes => Some(self.coder.call(letter, Call::PutLaplace(size as i32, fs, decay))),
-            ("N", &[size]) if writes => Some(self.coder.call(letter, Call::PutLaplace(-(size as i32), fs, decay))),
-            ("W", &[n, k]) if writes => Some(self.put_vector(n, k)),
+            ("A", &[place, value]) => {
+                self.places[place as usize] = value as i32;
+                None
+            }
+            ("L", &[value]) if writes => Some(self.coder.call(letter, Call::PutLaplace(value as i32, fs, decay))),
+            ("W", &[n, k]) if writes => Some(self.put_vector(n as u32, k as u32)),
             ("l", []) if reads => Some(self.coder.call(letter, Call::GetLaplace(fs, decay))),
-            ("w", &[n, k]) if reads => Some(self.get_vector(n, k)),
+            ("w", &[n, k]) if reads => Some(self.get_vector(n as u32, k as u32)),
             _ => panic!("'{line}' is no request here"),
         }
     }
