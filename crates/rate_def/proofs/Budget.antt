@@ -194,6 +194,15 @@ module _ (a : In) (o : InOk a) where
     unfolding alloc allocFrom finish
     looks = (vector-trials a, rounds-le (bitsOf a) (the-skip .0) (first-within a o) the-after)
 
+    -- what a skipped band kept is spent on its fine bits to the last eighth
+    pub skipped-whole : (j : ℕ) → alloc a A s .0 .coded ≤ j
+        → 8 * a .C * alloc a A s .0 .band j .fine ≡ getD (the-skip .0 .last .kept) (j - alloc a A s .0 .coded) 0
+    unfolding alloc allocFrom finish bandOf skipped
+    skipped-whole j h =
+        let r = the-skip .0 .last in
+        rw (le-ltb j (r .coded) h)
+        (skipped-price (bitsOf a) (getD (r .kept) (j - r .coded) 0) (floors-at (bitsOf a) (r .kept) (the-after .floors) (j - r .coded)))
+
     -- some band is coded; the intensity question has 2 to 22 answers
     pub coded-in : (a .start < alloc a A s .0 .coded) × (alloc a A s .0 .coded ≤ a .end)
     unfolding alloc allocFrom finish

@@ -13,15 +13,16 @@ use Rattle.entdec.specs.declared.Reader.{Reader}
 use Rattle.entdec.specs.Symbols.{readSym}
 use Rattle.entenc.specs.Write.{Wr}
 use Rattle.entenc.specs.Symbols.{writeSym}
-use Rattle.rate_def.specs.Asked.{In, Out, Ask}
+use Rattle.rate_def.specs.Asked.{In, Out}
 use Rattle.rate_def.specs.Domain.{InOk}
-use Rattle.rate_def.specs.Alloc.{alloc}
-use Rattle.rate_def.specs.Answers.{reading, writing}
+use Rattle.rate_def.specs.Answers.{reading}
 use Rattle.rate_def.specs.Written.{flagsWritten, written}
-use Rattle.rate_def.proofs.Trace.{trace, writing-writes, writing-below}
-use Rattle.rate_def.proofs.Follow.{Says, Tells, Agrees, follow}
+use Rattle.rate_def.proofs.Trace.{writing-below}
+use Rattle.rate_def.proofs.Follow.{Says, Tells, Agrees}
 use Rattle.rate_def.proofs.Budget.{answers-in, intensity-in}
 use Rattle.rate_skip.specs.Asks.{readAsk, writeAsk, readBit, writeBit, writeBelow}
+use Rattle.rate.specs.Answer.{writeAlloc}
+use Rattle.rate.proofs.Coded.{out, write-traced}
 use Rattle.trip.specs.Along.{writeSyms, Meets, Along}
 use Rattle.trip.proofs.Kind.{UintFine, fine}
 use Rattle.trip.proofs.Rows.{AllFine}
@@ -156,27 +157,14 @@ module _ (s : List ℕ) where
             subst (λ (v : Wr). Meets s (v .st) (z .last)) (sym (write-append (flagSyms (o .flags)) (i ++ e) w ∙ write-append i e w₁)) (z .goes);
       }
 
--- ---- the two calls
+-- ---- the encoder's call: it wrote its result's symbols, each in its domain
 
 module _ (a : In) (ok : InOk a) (previous bandwidth : ℤ) (intensity : ℕ) (dual : Bool) (w : Wr) where
-  abbrev asker : Ask Wr
-  asker = writeAsk a previous bandwidth intensity dual
+  pub write-syms : writeAlloc a intensity dual previous bandwidth w .1 ≡ writeSyms (allocSyms a (out a previous bandwidth intensity dual w)) w
+  write-syms = write-traced a previous bandwidth intensity dual w ∙ alloc-written a (out a previous bandwidth intensity dual w) w
 
-  abbrev out : Out
-  out = alloc a asker w .0
-
-  -- the encoder wrote its result's symbols
-  pub write-traced : alloc a asker w .1 ≡ written writeBit writeBelow a out w
-  write-traced = trace writeBit writeBelow asker (writing-writes writeBit writeBelow a previous bandwidth intensity dual) a w
-
-  pub write-syms : alloc a asker w .1 ≡ writeSyms (allocSyms a out) w
-  write-syms = write-traced ∙ alloc-written a out w
-
-  pub write-fine : AllFine (allocSyms a out)
+  pub write-fine : AllFine (allocSyms a (out a previous bandwidth intensity dual w))
   write-fine =
+      let asker = writeAsk a previous bandwidth intensity dual in
       let n = answers-in a ok asker w in
-      alloc-fine a out (n .0) (n .1) (intensity-in a ok asker w (writing-below writeBit writeBelow a previous bandwidth intensity dual))
-
-  -- and the decoder follows
-  pub read-follows : (s : List ℕ) (d last : Reader) → Agrees (readAsk s) a out d last → alloc a (readAsk s) d ≡ (out, last)
-  read-follows s d last g = follow a asker (readAsk s) w d last g
+      alloc-fine a (out a previous bandwidth intensity dual w) (n .0) (n .1) (intensity-in a ok asker w (writing-below writeBit writeBelow a previous bandwidth intensity dual))

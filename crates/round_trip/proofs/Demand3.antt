@@ -19,14 +19,13 @@ use Rattle.entenc.specs.Write.{Wr, wr, freshWriter}
 use Rattle.entenc.specs.Close.{closeW}
 use Rattle.entenc.specs.Rule.{writerOk}
 use Rattle.rate_def.specs.Asked.{Band, In, Out}
-use Rattle.rate_def.proofs.Follow.{replay}
-use Rattle.rate_skip.specs.Asks.{writeAsk}
 use Rattle.rate.specs.declared.Numbers.{Numbers}
 use Rattle.rate.specs.Question.{Lists, Wishes, allocInput, entriesOk, numbersOk, refusalRead, sized}
 use Rattle.rate.specs.Answer.{answerRead, afterRead, listed, listsOf, readAlloc, readShown, writeWished, writtenShown}
 use Rattle.rate.specs.declared.AllocRead.the-variants as allocRead
 use Rattle.rate.specs.declared.WrittenAllocation.{WrittenAllocation}
 use Rattle.rate.proofs.Accepts.{sized as sizes-of}
+use Rattle.rate.proofs.Coded.{write-traced, write-replayed, read-follows}
 use Rattle.trip.specs.Along.{writeSyms, Along, Meets}
 use Rattle.trip.proofs.Trip.{Back, along}
 use Rattle.trip.proofs.Rows.{AllFine}
@@ -37,7 +36,7 @@ use Rattle.round_trip.specs.Rows.Got.{got}
 use Rattle.round_trip.specs.Demand.{Agreed, RowAgreed, RowSent, SameIn, SameSizes, Sent}
 use Rattle.round_trip.proofs.Symbols.{same-tells, opens}
 use Rattle.round_trip.proofs.RowsBack.{syms, write-append, fine-append, meets-first, all-done, rule-before, row-back}
-use Rattle.round_trip.proofs.Allocation.{allocSyms, reads-on, write-traced, write-syms, write-fine, read-follows}
+use Rattle.round_trip.proofs.Allocation.{allocSyms, reads-on, write-syms, write-fine}
 use Rattle.round_trip.proofs.Gates.{new-writer, new-reader, closed, Allotted, allotted}
 
 -- ---- the row, and symbols after it that no gate looks at
@@ -145,8 +144,8 @@ module _ (bytes : List ℕ) (ys : List Symbol) (q : Numbers) (offsets caps : Lis
         tells = same-tells (k .packet) (k .shares .next) e t c;
         error = t .error;
         out = o;
-        given = sym (replay a (writeAsk a (h .previous) (h .bandwidth) (clip (h .intensity)) (ltZ (pos 0) (h .dual))) (k .row));
-        symbols = v ∙ write-traced a (g .asked) (h .previous) (h .bandwidth) (clip (h .intensity)) (ltZ (pos 0) (h .dual)) (k .row);
+        given = sym (write-replayed a (h .previous) (h .bandwidth) (clip (h .intensity)) (ltZ (pos 0) (h .dual)) (k .row));
+        symbols = v ∙ write-traced a (h .previous) (h .bandwidth) (clip (h .intensity)) (ltZ (pos 0) (h .dual)) (k .row);
         shown-written = u ∙ ap (λ (y : Wr). writtenShown (o, y)) (sym v);
         lists-written = g .lists;
         shown-read = refl;
@@ -166,7 +165,7 @@ module _ (bytes : List ℕ) (ys : List Symbol) (q : Numbers) (offsets caps : Lis
       (write-fine a (g .asked) (h .previous) (h .bandwidth) i e (k .row)) (sym y ∙ sym v) (c .bytes) (ap (λ (u : Writer). u .sink .error) (sym (c .state)) ∙ k .fits) in
       let r = reads-on (k .packet) a (run .0) (k .row) (x .0) (x .1 .goes) in
       agreed z (n .0) g v (c .rule) (x .0) (r .last) (x .1) (meets-first (allocSyms a (run .0)) (k .packet) (k .row) (x .0) (x .1 .goes))
-      (read-follows a (g .asked) (h .previous) (h .bandwidth) i e (k .row) (k .packet) (x .0) (r .last) (r .agrees))
+      (read-follows a (h .previous) (h .bandwidth) i e (k .row) (k .packet) (x .0) (r .last) (r .agrees))
       (subst (λ (u : Wr). Meets (k .packet) (u .st) (r .last)) (sym y ∙ sym v) (r .meets))
 
 -- symbols alone
