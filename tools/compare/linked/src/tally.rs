@@ -1,0 +1,154 @@
+//! How many calls were compared, by exported call; what was not compared, by reason; and the progress of a run.
+use std::collections::BTreeMap;
+use std::time::{Duration, Instant};
+
+macro_rules! exported {
+    ($($name:ident $text:literal),* $(,)?) => {
+        /// The exported calls.
+        #[derive(Clone, Copy, PartialEq, Debug)]
+        pub enum Name { $($name),* }
+
+        /// Their names in libcelt.a.
+        pub const NAMES: &[&str] = &[$($text),*];
+    };
+}
+
+exported! {
+    DecNew "celt_dec_new",
+    DecBit "celt_dec_bit_logp",
+    DecIcdf "celt_dec_icdf",
+    DecUint "celt_dec_uint",
+    DecBits "celt_dec_bits",
+    DecTell "celt_dec_tell",
+    DecTellFrac "celt_dec_tell_frac",
+    EncNew "celt_enc_new",
+    EncBit "celt_enc_bit_logp",
+    EncIcdf "celt_enc_icdf",
+    EncUint "celt_enc_uint",
+    EncBits "celt_enc_bits",
+    EncClose "celt_enc_close",
+    EncTell "celt_enc_tell",
+    EncTellFrac "celt_enc_tell_frac",
+    LaplaceDecode "celt_laplace_decode",
+    LaplaceEncode "celt_laplace_encode",
+    DecodePulses "celt_decode_pulses",
+    EncodePulses "celt_encode_pulses",
+    GetPulses "celt_get_pulses",
+    Bits2Pulses "celt_bits2pulses",
+    Pulses2Bits "celt_pulses2bits",
+    AllocationRead "celt_compute_allocation_read",
+    AllocationWrite "celt_compute_allocation_write",
+    Coarse "celt_unquant_coarse_energy",
+    Finalise "celt_unquant_energy_finalise",
+    Shape "celt_alg_unquant",
+    RecordFresh "celt_record_fresh",
+    RecordOrder "celt_record_order",
+    RecordFrame "celt_record_frame",
+    RecordSave "celt_record_save",
+    RecordRestore "celt_record_restore",
+    List "celt_list",
+}
+
+/// Why a call was not compared, or with one oracle only.
+#[derive(Clone, Copy, PartialEq, Eq, PartialOrd, Ord)]
+pub enum Why {
+    /// Nothing was compared.
+    NoCount,
+    /// The answer was compared with libopus' alone.
+    CratePanics,
+    /// Nothing was compared.
+    OraclePanics,
+}
+
+impl Why {
+    fn text(self) -> &'static str {
+        match self {
+            Why::NoCount => "not compared: V(N,K) is below 2^32, but in neither oracle's table",
+            Why::CratePanics => "compared with libopus alone: the crate panics",
+            Why::OraclePanics => "not compared: the oracles' side panics",
+        }
+    }
+}
+
+#[derive(Clone, Copy, Default)]
+struct Count {
+    taken: u64,
+    refused: [u64; 13],
+}
+
+/// The counts of one kind.
+pub struct Tally {
+    kind: &'static str,
+    counts: Vec<Count>,
+    apart: BTreeMap<(&'static str, Why), (u64, String)>,
+    /// All calls that were compared.
+    pub calls: u64,
+    /// How many there are to be, for whoever watches; 0 where that is not known.
+    pub goal: u64,
+    began: Instant,
+    shown: Instant,
+}
+
+impl Tally {
+    pub fn new(kind: &'static str) -> Self {
+        let now = Instant::now();
+        let counts = vec![Count::default(); NAMES.len()];
+        Tally { kind, counts, apart: BTreeMap::new(), calls: 0, goal: 0, began: now, shown: now }
+    }
+
+    /// A call that was answered alike: no is its refusal, 0 for none.
+    pub fn alike(&mut self, name: Name, no: u32) {
+        let count = &mut self.counts[name as usize];
+        if no == 0 {
+            count.taken += 1;
+        } else {
+            count.refused[no as usize] += 1;
+        }
+        self.calls += 1;
+        if self.calls % 0x4000 == 0 {
+            self.progress();
+        }
+    }
+
+    /// A call that stands apart, for that reason; the first one of them is shown.
+    pub fn apart(&mut self, name: Name, why: Why, shown: impl FnOnce() -> String) {
+        self.apart.entry((NAMES[name as usize], why)).or_insert_with(|| (0, shown())).0 += 1;
+    }
+
+    #[cold]
+    fn progress(&mut self) {
+        if self.shown.elapsed() < Duration::from_secs(5) {
+            return;
+        }
+        self.shown = Instant::now();
+        let goal = if self.goal == 0 { String::new() } else { format!(" of {}", grouped(self.goal)) };
+        let speed = self.calls as f64 / self.began.elapsed().as_secs_f64();
+        eprintln!("{}: {}{goal} calls, {} a second, no difference", self.kind, grouped(self.calls), grouped(speed as u64));
+    }
+
+    /// The counts as lines.
+    pub fn lines(&self) -> Vec<String> {
+        let seconds = self.began.elapsed().as_secs_f64();
+        let mut list = vec![format!("{}: {} calls in {seconds:.0} seconds", self.kind, grouped(self.calls))];
+        for (name, count) in NAMES.iter().zip(&self.counts) {
+            let refused: u64 = count.refused.iter().sum();
+            if count.taken + refused == 0 {
+                continue;
+            }
+            let each = count.refused.iter().enumerate().filter(|(_, &n)| n > 0).map(|(no, &n)| format!("{} as {no}", grouped(n)));
+            let each: Vec<String> = each.collect();
+            let refused = if each.is_empty() { String::new() } else { format!("; refused {}", each.join(", ")) };
+            list.push(format!("    {name}: taken {}{refused}", grouped(count.taken)));
+        }
+        let apart = self.apart.iter().map(|((name, why), (n, first))| format!("    {name}: {} {}; the first: {first}", grouped(*n), why.text()));
+        list.extend(apart);
+        list
+    }
+}
+
+/// A count with its thousands parted.
+pub fn grouped(n: u64) -> String {
+    let text = n.to_string();
+    let parts: Vec<&str> = text.as_bytes().rchunks(3).rev().map(|c| std::str::from_utf8(c).unwrap_or("")).collect();
+    parts.join(",")
+}
