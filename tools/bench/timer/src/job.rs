@@ -22,7 +22,7 @@ pub fn part(callee: &'static str, round: impl FnMut(bool) -> u64 + 'static) -> O
 
 pub struct Job {
     pub name: &'static str,
-    /// Where the inputs are from: recorded or generated.
+    /// Where the inputs are from: recorded, generated or both.
     pub inputs: &'static str,
     /// A whole frame's work, or a single call.
     pub frame: bool,
@@ -48,6 +48,10 @@ pub fn mix_bytes(sum: u64, bytes: &[u8]) -> u64 {
 
 pub fn mix_list(sum: u64, list: &[i32]) -> u64 {
     list.iter().fold(sum, |sum, &v| mix(sum, v as i64))
+}
+
+pub fn mix_floats(sum: u64, list: &[f32]) -> u64 {
+    list.iter().fold(sum, |sum, &v| mix(sum, v.to_bits() as i64))
 }
 
 /// The crate's coder over these bytes in that state.

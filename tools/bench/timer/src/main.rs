@@ -1,13 +1,16 @@
 //! Measures the port, the crate and libopus on the same inputs, in one process.
 //!
 //!     timer ROOT list            the jobs: their number, name, inputs, kind, calls of a round and callees
-//!     timer ROOT time ROUNDS     after it, for each side the median nanoseconds of a call
+//!     timer ROOT time ROUNDS     after it, for each side the median nanoseconds of a call; without a round, a dash
 //!     timer ROOT count NUMBER    one round of each side of one job, for a profiler
 mod allocation;
+mod energies;
 mod job;
+mod listing;
 mod lookups;
 mod ours;
 mod pulses;
+mod shapes;
 mod symbols;
 mod traffic;
 #[path = "../../driver/src/random.rs"]
@@ -28,6 +31,9 @@ fn jobs(root: &str) -> Vec<Job> {
     list.extend(pulses::jobs(r, &traffic::shapes(root)));
     list.extend(lookups::jobs(r));
     list.extend(allocation::jobs(recorded, any));
+    list.extend(energies::jobs(r, traffic::coarse(root), traffic::last_bits(root)));
+    list.extend(shapes::jobs(traffic::shapes(root)));
+    list.extend(listing::jobs(traffic::request_lines(root)));
     let empty: Vec<&str> = list.iter().filter(|job| job.calls == 0).map(|job| job.name).collect();
     assert!(empty.is_empty(), "without inputs: {}", empty.join("; "));
     list

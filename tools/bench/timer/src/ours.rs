@@ -1,5 +1,6 @@
 //! The port's exported calls, by name in libcelt.a. A lent list is a pointer and a length. Nothing checks these declarations: they follow
 //! crates/celt/src.
+use crate::traffic::{Energies, Shape};
 
 /// A coder's state: storage, end_offs, end_window, nend_bits, nbits_total, offs, rng, val, ext, rem, error in the crate's encoding, and closed.
 pub type State = [i64; 12];
@@ -44,6 +45,25 @@ mod celt {
             intensity: i32, dual: i32, previous: i32, bandwidth: i32, offsets: *const i32, offset_count: usize, caps: *const i32,
             cap_count: usize, pulses: *mut i32, pulse_count: usize, fine: *mut i32, fine_count: usize, priorities: *mut i32,
             priority_count: usize, shown: *mut i32, shown_count: usize,
+        ) -> u32;
+        pub fn celt_unquant_coarse_energy(
+            state: *mut i64, states: usize, s: *const u8, bytes: usize, energies: *mut f32, energy_count: usize, c: i32, lm: i32, start: i32,
+            end: i32, intra: i32,
+        ) -> u32;
+        pub fn celt_unquant_energy_finalise(
+            state: *mut i64, states: usize, s: *const u8, bytes: usize, energies: *mut f32, energy_count: usize, c: i32, start: i32, end: i32,
+            fine: *const i32, fine_count: usize, priorities: *const i32, priority_count: usize, left: i32,
+        ) -> u32;
+        pub fn celt_alg_unquant(
+            state: *mut i64, states: usize, s: *const u8, bytes: usize, shape: *mut f32, places: usize, n: i32, k: i32, spread: i32, b: i32,
+            gain: f32, mask: *mut u32, masks: usize,
+        ) -> u32;
+        pub fn celt_record_frame(
+            energies: *mut f32, energy_count: usize, next: *mut u64, next_count: usize, state: *mut i64, states: usize, s: *const u8,
+            bytes: usize, number: u64, c: i32, lm: i32, start: i32, end: i32, intra: i32,
+        ) -> u32;
+        pub fn celt_list(
+            line: *const u8, line_bytes: usize, number: u32, out: *mut u8, room: usize, length: *mut usize, lengths: usize,
         ) -> u32;
     }
 }
@@ -200,4 +220,53 @@ pub fn allocation_write(
         )
     };
     if no == 0 { Ok(shown) } else { Err(no) }
+}
+
+/// The coarse energies of a frame, in place.
+pub fn coarse(state: &mut State, e: &Energies, energies: &mut [f32; 42]) {
+    done(unsafe {
+        celt::celt_unquant_coarse_energy(
+            state.as_mut_ptr(), 12, e.bytes.as_ptr(), e.bytes.len(), energies.as_mut_ptr(), 42, e.c, e.lm, e.start, e.end, e.intra,
+        )
+    });
+}
+
+/// The last bits of a frame, in place.
+pub fn finalise(state: &mut State, e: &Energies, energies: &mut [f32; 42]) {
+    done(unsafe {
+        celt::celt_unquant_energy_finalise(
+            state.as_mut_ptr(), 12, e.bytes.as_ptr(), e.bytes.len(), energies.as_mut_ptr(), 42, e.c, e.start, e.end, e.fine.as_ptr(), 21,
+            e.priorities.as_ptr(), 21, e.left,
+        )
+    });
+}
+
+/// The coarse energies of the record's next frame, in place.
+pub fn record_frame(state: &mut State, e: &Energies, energies: &mut [f32; 42], next: &mut u64) {
+    let number = *next;
+    done(unsafe {
+        celt::celt_record_frame(
+            energies.as_mut_ptr(), 42, next, 1, state.as_mut_ptr(), 12, e.bytes.as_ptr(), e.bytes.len(), number, e.c, e.lm, e.start, e.end,
+            e.intra,
+        )
+    });
+}
+
+/// A shape of n places, and its collapse mask; or the refusal.
+pub fn shape(state: &mut State, s: &Shape, places: &mut [f32]) -> Result<u32, u32> {
+    let mut mask = 0;
+    let no = unsafe {
+        celt::celt_alg_unquant(
+            state.as_mut_ptr(), 12, s.bytes.as_ptr(), s.bytes.len(), places.as_mut_ptr(), places.len(), s.n as i32, s.k as i32, s.spread, s.b,
+            s.gain, &mut mask, 1,
+        )
+    };
+    if no == 0 { Ok(mask) } else { Err(no) }
+}
+
+/// The bytes of the answer to a request line.
+pub fn list(line: &[u8], number: u32, out: &mut [u8]) -> usize {
+    let mut length = 0;
+    done(unsafe { celt::celt_list(line.as_ptr(), line.len(), number, out.as_mut_ptr(), out.len(), &mut length, 1) });
+    length
 }

@@ -259,11 +259,12 @@ fn read_laplace(c: &mut ec_ctx, pair: &Pair) -> i32 {
 }
 
 /// The Laplace values at the start of recorded coarse energies: as long as 15 bits are left for each.
-fn recorded_values(lines: &[traffic::Coarse]) -> Vec<Packet<Pair>> {
+fn recorded_values(lines: &[traffic::Energies]) -> Vec<Packet<Pair>> {
     let pairs = quant_bands::model_pairs();
-    let packet = |e: &traffic::Coarse| {
-        let most = e.c * (e.end - e.start);
-        let pair = |at: usize| Some(pairs[(e.lm * 2 + e.intra) * 21 + e.start + at / e.c]);
+    let packet = |e: &traffic::Energies| {
+        let [c, lm, start, end, intra] = [e.c, e.lm, e.start, e.end, e.intra].map(|v| v as usize);
+        let most = c * (end - start);
+        let pair = |at: usize| Some(pairs[(lm * 2 + intra) * 21 + start + at / c]);
         read_all(e.bytes.clone(), e.state, most, pair, read_laplace)
     };
     lines.iter().map(packet).filter(|p| !p.symbols.is_empty()).collect()
@@ -299,7 +300,7 @@ fn laplace_jobs(inputs: &'static str, packets: &[Packet<Pair>]) -> Vec<Job> {
     ]
 }
 
-pub fn jobs(r: &mut Random, energies: &[traffic::Coarse]) -> Vec<Job> {
+pub fn jobs(r: &mut Random, energies: &[traffic::Energies]) -> Vec<Job> {
     let mut list = [bits(r), tables(r), uniform(r), raw(r)].into_iter().flatten().collect::<Vec<_>>();
     let pairs = quant_bands::model_pairs();
     list.extend(laplace_jobs("generated", &generated(r, |r| pairs[r.below(168) as usize], read_laplace)));

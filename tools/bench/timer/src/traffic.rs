@@ -79,31 +79,65 @@ pub fn any_allocations(root: &str, recorded: usize) -> Vec<Question> {
     file(root, "crates/replay_alloc/stdin").lines().skip(recorded).filter_map(line).collect()
 }
 
-/// A decoding of coarse energies, as far as its first symbols need it.
-pub struct Coarse {
-    pub c: usize,
-    pub lm: usize,
-    pub start: usize,
-    pub end: usize,
-    pub intra: usize,
+/// A decoding of coarse energies, or of a frame's last bits.
+#[derive(Clone)]
+pub struct Energies {
+    pub c: i32,
+    pub start: i32,
+    pub end: i32,
+    /// Of a coarse decoding.
+    pub lm: i32,
+    pub intra: i32,
+    /// Of the last bits.
+    pub left: i32,
+    pub fine: [i32; 21],
+    pub priorities: [i32; 21],
+    /// The energies before, the reader's state before, and the packet.
+    pub energies: [f32; 42],
     pub state: State,
     pub bytes: Vec<u8>,
 }
 
-pub fn coarse(root: &str) -> Vec<Coarse> {
-    let line = |line: &str| {
-        let f: Vec<&str> = line.split('\t').collect();
-        let n: Vec<usize> = f[1..6].iter().map(|w| w.parse().expect("a number")).collect();
-        Coarse { c: n[0], lm: n[1], start: n[2], end: n[3], intra: n[4], state: state_of(f[7]), bytes: bytes_of(f[8]) }
-    };
-    file(root, "tools/compare/driver/src/energy_traffic.txt").lines().filter(|l| l.starts_with('E')).map(line).collect()
+fn floats(text: &str) -> [f32; 42] {
+    let n: Vec<f32> = text.split(',').map(|w| f32::from_bits(u32::from_str_radix(w, 16).expect("hex"))).collect();
+    n.try_into().expect("42 energies")
 }
 
-/// A decoding of a shape, as far as its pulse word needs it.
+fn list_21(text: &str) -> [i32; 21] {
+    numbers(text, ',').try_into().expect("21 entries")
+}
+
+/// The recorded calls with this letter: E for coarse decodings, F for last bits. tools/compare's energy_sequences.rs has their form.
+fn recorded_energies(root: &str, letter: &str, of: impl Fn(&[&str]) -> Energies) -> Vec<Energies> {
+    let text = file(root, "tools/compare/driver/src/energy_traffic.txt");
+    let lines = text.lines().map(|line| line.split('\t').collect::<Vec<&str>>());
+    lines.filter(|f| f[0] == letter).map(|f| of(&f)).collect()
+}
+
+pub fn coarse(root: &str) -> Vec<Energies> {
+    recorded_energies(root, "E", |f| {
+        let [c, lm, start, end, intra] = std::array::from_fn(|at| f[1 + at].parse().expect("a number"));
+        let (energies, state, bytes) = (floats(f[6]), state_of(f[7]), bytes_of(f[8]));
+        Energies { c, start, end, lm, intra, left: 0, fine: [0; 21], priorities: [0; 21], energies, state, bytes }
+    })
+}
+
+pub fn last_bits(root: &str) -> Vec<Energies> {
+    recorded_energies(root, "F", |f| {
+        let [c, start, end, left] = std::array::from_fn(|at| f[1 + at].parse().expect("a number"));
+        let (energies, state, bytes) = (floats(f[7]), state_of(f[8]), bytes_of(f[9]));
+        Energies { c, start, end, lm: 0, intra: 0, left, fine: list_21(f[5]), priorities: list_21(f[6]), energies, state, bytes }
+    })
+}
+
+/// A decoding of a shape.
 #[derive(Clone)]
 pub struct Shape {
     pub n: u32,
     pub k: u32,
+    pub spread: i32,
+    pub b: i32,
+    pub gain: f32,
     pub state: State,
     pub bytes: Vec<u8>,
 }
@@ -111,7 +145,14 @@ pub struct Shape {
 pub fn shapes(root: &str) -> Vec<Shape> {
     let line = |line: &str| {
         let f: Vec<&str> = line.split('\t').collect();
-        Shape { n: f[1].parse().expect("N"), k: f[2].parse().expect("K"), state: state_of(f[6]), bytes: bytes_of(f[7]) }
+        let [n, k, spread, b] = std::array::from_fn(|at| f[1 + at].parse::<u32>().expect("a number"));
+        let gain = f32::from_bits(u32::from_str_radix(f[5], 16).expect("hex"));
+        Shape { n, k, spread: spread as i32, b: b as i32, gain, state: state_of(f[6]), bytes: bytes_of(f[7]) }
     };
     file(root, "tools/compare/driver/src/shape_traffic.txt").lines().map(line).collect()
+}
+
+/// The request lines of the lister, with their numbers.
+pub fn request_lines(root: &str) -> Vec<(u32, String)> {
+    (1..).zip(file(root, "crates/lister/stdin").split('\n').map(str::to_string)).collect()
 }
