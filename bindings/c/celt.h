@@ -1,6 +1,7 @@
 /*
- * The range coder of CELT (RFC 6716), its Laplace values, pulse words, lookups and bit allocation: what libcelt.a has.
- * `rt staticlib celt`, run in the repository, proves every call and writes target/staticlib/libcelt.a, for x86-64 Linux.
+ * The range coder of CELT (RFC 6716), its Laplace values, pulse words, lookups, bit allocation, energies and shapes, the stream record and the
+ * lister: what libcelt.a has. `rt staticlib celt`, run in the repository, proves every call and writes target/staticlib/libcelt.a, for x86-64
+ * Linux.
  *
  * Every call answers 0, or the number of a refusal (enum celt_refusal), and then every list is as it was. It takes any number and any length.
  *
@@ -23,11 +24,14 @@ extern "C" {
 
 /* How many elements a list has. */
 enum {
-    CELT_STATE = 12,  /* a coder's state */
-    CELT_VALUE = 1,   /* a list for one result */
-    CELT_BANDS = 21,  /* offsets, caps, pulses, fine bits, priorities */
-    CELT_SHOWN = 4,   /* coded bands, balance, intensity, dual stereo */
-    CELT_ROOM = 176   /* the places of a pulse vector */
+    CELT_STATE = 12,    /* a coder's state */
+    CELT_VALUE = 1,     /* a list for one result */
+    CELT_BANDS = 21,    /* offsets, caps, pulses, fine bits, priorities */
+    CELT_SHOWN = 4,     /* coded bands, balance, intensity, dual stereo */
+    CELT_ROOM = 176,    /* the places of a pulse vector */
+    CELT_ENERGIES = 42, /* the energies of two channels; channel 1 from place 21 */
+    CELT_LINE = 390,    /* or more: bytes for a saved record's line */
+    CELT_LISTED = 1200  /* or more: bytes for the lister's answer to a line */
 };
 
 /* What stands where in a state. */
@@ -48,18 +52,21 @@ enum celt_place {
 
 /* Why a call was refused. Of several that apply the first is given, in the order of this list. */
 enum celt_refusal {
-    CELT_LENGTH = 2,  /* a lent length is wrong */
-    CELT_NUMBER = 1,  /* a number is outside the domain */
-    CELT_ENTRY = 3,   /* an entry of a list is outside its range */
-    CELT_NO_ROW = 5,  /* the pulse cache has no row for that band and LM */
-    CELT_INDEX = 6,   /* the pulse index is outside the row */
-    CELT_COUNT = 7,   /* the vector count V(N,K) is 2^32 or more */
-    CELT_SUM = 8,     /* the absolute values of a vector to encode do not sum to K */
+    CELT_LENGTH = 2,          /* a lent length is wrong */
+    CELT_NUMBER = 1,          /* a number is outside the domain, or a text line is malformed */
+    CELT_ENTRY = 3,           /* a list entry, energy or gain is outside its range; every list is checked whole */
+    CELT_NO_ROW = 5,          /* the pulse cache index is negative for that band and LM */
+    CELT_INDEX = 6,           /* the pulse index is outside 0..row length */
+    CELT_COUNT = 7,           /* the vector count V(N,K) is 2^32 or more */
+    CELT_SUM = 8,             /* the absolute values of a vector to encode do not sum to K */
+    CELT_ROTATION = 9,        /* 2K < N and spread is not 0: a rotation would be due */
+    CELT_BELOW_NEXT = 10,     /* the frame number is below the record's next number */
+    CELT_ABOVE_NEXT = 11,     /* the frame number is above the record's next number */
     CELT_CLOSED_ALREADY = 12, /* a write or close after close */
-    CELT_PAST_END = 4 /* on entry, tell is above 8 * storage + 32 bits */
+    CELT_PAST_END = 4         /* on entry, tell is above 8 * storage + 32 bits */
 };
 
-/* ---- reading */
+/* ---- reading. Refused as CELT_LENGTH, CELT_NUMBER and, where a symbol is read, CELT_PAST_END; a table as CELT_ENTRY too */
 
 /* A new reader of a packet of at most 1,275 bytes. */
 uint32_t celt_dec_new(int64_t *state, size_t state_n, const uint8_t *packet, size_t packet_n);
@@ -84,7 +91,7 @@ uint32_t celt_dec_bits(int64_t *state, size_t state_n, const uint8_t *packet, si
 uint32_t celt_dec_tell(const int64_t *state, size_t state_n, uint32_t *value, size_t value_n);
 uint32_t celt_dec_tell_frac(const int64_t *state, size_t state_n, uint32_t *value, size_t value_n);
 
-/* ---- writing */
+/* ---- writing. Refused as reading is, and a write or close as CELT_CLOSED_ALREADY; close is never refused as CELT_PAST_END */
 
 /* A new writer over at most 1,275 bytes. */
 uint32_t celt_enc_new(int64_t *state, size_t state_n, const uint8_t *buf, size_t buf_n);
@@ -109,7 +116,7 @@ uint32_t celt_enc_close(int64_t *state, size_t state_n, uint8_t *buf, size_t buf
 uint32_t celt_enc_tell(const int64_t *state, size_t state_n, uint32_t *value, size_t value_n);
 uint32_t celt_enc_tell_frac(const int64_t *state, size_t state_n, uint32_t *value, size_t value_n);
 
-/* ---- Laplace values; fs and decay are a pair of the coarse-energy model */
+/* ---- Laplace values; fs and decay are a pair of the coarse-energy model, or it is CELT_NUMBER */
 
 uint32_t celt_laplace_decode(int64_t *state, size_t state_n, const uint8_t *packet, size_t packet_n, uint32_t fs, uint32_t decay,
                              int32_t *value, size_t value_n);
@@ -118,21 +125,23 @@ uint32_t celt_laplace_decode(int64_t *state, size_t state_n, const uint8_t *pack
 uint32_t celt_laplace_encode(int64_t *state, size_t state_n, uint8_t *buf, size_t buf_n, int32_t z, uint32_t fs, uint32_t decay,
                              int32_t *value, size_t value_n);
 
-/* ---- pulse words: a vector of n places and k pulses, n 2..176, k 1..128, in the first n of CELT_ROOM places */
+/* ---- pulse words: a vector of n places and k pulses, n 2..176, k 1..128, in the first n of CELT_ROOM places. A count of 2^32 or more is
+ *      CELT_COUNT, a vector to encode whose sum is not k CELT_SUM */
 
 uint32_t celt_decode_pulses(int64_t *state, size_t state_n, const uint8_t *packet, size_t packet_n, int32_t *y, size_t y_n, uint32_t n,
                             uint32_t k, uint32_t *energy, size_t energy_n);
 uint32_t celt_encode_pulses(int64_t *state, size_t state_n, uint8_t *buf, size_t buf_n, const int32_t *y, size_t y_n, uint32_t n,
                             uint32_t k);
 
-/* ---- lookups of the pulse cache: i 0..40; band 0..20, lm -1..3, bits -81,600..81,600 */
+/* ---- lookups of the pulse cache: i 0..40; band 0..20, lm -1..3, bits -81,600..81,600. A band without a row is CELT_NO_ROW, pulses that are none
+ *      of its indices CELT_INDEX */
 
 uint32_t celt_get_pulses(int32_t i, uint32_t *value, size_t value_n);
 uint32_t celt_bits2pulses(int32_t band, int32_t lm, int32_t bits, uint32_t *value, size_t value_n);
 uint32_t celt_pulses2bits(int32_t band, int32_t lm, int32_t pulses, uint32_t *value, size_t value_n);
 
-/* ---- bit allocation: c 1..2, lm 0..3, 0 <= start < end <= 21, trim 0..10, total up to 81,600; offsets 0..81,600, caps 0..32,767.
- *      The bands start..end-1 of pulses, fine and priorities are written; shown is coded bands, balance, intensity, dual stereo. */
+/* ---- bit allocation: c 1..2, lm 0..3, 0 <= start < end <= 21, trim 0..10, total up to 81,600; offsets 0..81,600, caps 0..32,767, or it is
+ *      CELT_ENTRY. The bands start..end-1 of pulses, fine and priorities are written; shown is coded bands, balance, intensity, dual stereo. */
 
 uint32_t celt_compute_allocation_read(int64_t *state, size_t state_n, const uint8_t *packet, size_t packet_n, int32_t c, int32_t lm,
                                       int32_t start, int32_t end, int32_t trim, int32_t total, const int32_t *offsets, size_t offsets_n,
@@ -145,6 +154,53 @@ uint32_t celt_compute_allocation_write(int64_t *state, size_t state_n, uint8_t *
                                        int32_t bandwidth, const int32_t *offsets, size_t offsets_n, const int32_t *caps, size_t caps_n,
                                        int32_t *pulses, size_t pulses_n, int32_t *fine, size_t fine_n, int32_t *priorities,
                                        size_t priorities_n, int32_t *shown, size_t shown_n);
+
+/* ---- energies: CELT_ENERGIES finite floats; c 1..2, lm 0..3, 0 <= start < end <= 21, intra 0 or 1. An energy that is not finite is CELT_ENTRY.
+ *      The bands start..end-1 of the first c channels are written. */
+
+/* The coarse energies of a frame, in place of those of the frame before. */
+uint32_t celt_unquant_coarse_energy(int64_t *state, size_t state_n, const uint8_t *packet, size_t packet_n, float *energies,
+                                    size_t energies_n, int32_t c, int32_t lm, int32_t start, int32_t end, int32_t intra);
+
+/* The bits left over, one for each channel of a band; fine 0..8, priorities 0 or 1, left any number. */
+uint32_t celt_unquant_energy_finalise(int64_t *state, size_t state_n, const uint8_t *packet, size_t packet_n, float *energies,
+                                      size_t energies_n, int32_t c, int32_t start, int32_t end, const int32_t *fine, size_t fine_n,
+                                      const int32_t *priorities, size_t priorities_n, int32_t left);
+
+/* ---- shapes: n 2..176, k 1..128, spread 0..3, b 1..16 dividing n, gain finite and at most 1 in size, or it is CELT_ENTRY; shape has n places. A
+ *      count of 2^32 or more is CELT_COUNT, 2k < n with a spread that is not 0 CELT_ROTATION */
+
+/* The shape of a vector of k pulses, and which of its b parts hold a pulse. */
+uint32_t celt_alg_unquant(int64_t *state, size_t state_n, const uint8_t *packet, size_t packet_n, float *shape, size_t shape_n, int32_t n,
+                          int32_t k, int32_t spread, int32_t b, float gain, uint32_t *mask, size_t mask_n);
+
+/* ---- the stream record: CELT_ENERGIES floats and the number of the frame that comes next, at most 4,294,967,295 */
+
+/* The record before the first frame: energies of zero, number 0 comes next. */
+uint32_t celt_record_fresh(float *energies, size_t energies_n, uint64_t *next, size_t next_n);
+
+/* A frame's number against the next one: 0, CELT_BELOW_NEXT or CELT_ABOVE_NEXT. It looks at any two numbers. */
+uint32_t celt_record_order(uint64_t next, uint64_t number);
+
+/* Frame `number`, 0..4,294,967,294, whose coarse energies the reader stands before: only the next number is applied, and goes up by one. Any other
+ * number is CELT_BELOW_NEXT or CELT_ABOVE_NEXT, an energy of the record that is not finite CELT_ENTRY. */
+uint32_t celt_record_frame(float *energies, size_t energies_n, uint64_t *next, size_t next_n, int64_t *state, size_t state_n,
+                           const uint8_t *packet, size_t packet_n, uint64_t number, int32_t c, int32_t lm, int32_t start, int32_t end,
+                           int32_t intra);
+
+/* The record's line, without a line feed, to the front of buf, which has CELT_LINE bytes or more, and the line's length. */
+uint32_t celt_record_save(const float *energies, size_t energies_n, uint64_t next, uint8_t *buf, size_t buf_n, size_t *length,
+                          size_t length_n);
+
+/* The record of a saved line, without its line feed: an E line, as saved, or a Q line. A malformed line is CELT_NUMBER, an energy that is not
+ * finite CELT_ENTRY. */
+uint32_t celt_record_restore(const uint8_t *line, size_t line_n, float *energies, size_t energies_n, uint64_t *next, size_t next_n);
+
+/* ---- the lister */
+
+/* The lister's answer to a request line, without its line feed, to the front of out, which has CELT_LISTED bytes or more, and the answer's
+ * length. The number is the line's. A request that is refused is answered too, by an X line; the call itself is refused as CELT_LENGTH alone. */
+uint32_t celt_list(const uint8_t *line, size_t line_n, uint32_t number, uint8_t *out, size_t out_n, size_t *length, size_t length_n);
 
 #ifdef __cplusplus
 }

@@ -1,12 +1,28 @@
-//! Has the Rattle kit prove the crate `celt` and write libcelt.a, and links that.
+//! Has the Rattle kit prove the crate `celt` and write libcelt.a, and links that. Where CELT_LIBRARY names a folder, the libcelt.a in it, which
+//! `rt staticlib celt` wrote before, is linked instead.
 
 use std::env;
-use std::path::Path;
+use std::path::{Path, PathBuf};
 use std::process::{exit, Command};
 
 fn stop(why: &str) -> ! {
     eprintln!("celt: {why}");
     exit(1)
+}
+
+/// The folder of the archive that the kit proves and writes here.
+fn proved(root: &Path) -> PathBuf {
+    match Command::new("rt").args(["staticlib", "celt"]).current_dir(root).output() {
+        Err(e) => stop(&format!(
+            "libcelt.a is proved and built by the Rattle kit, and its command `rt` cannot be run ({e}). Put the kit's bin folder on the PATH; \
+             the repository's README.md, \"Run and test\", says which kit"
+        )),
+        Ok(done) if !done.status.success() => {
+            eprintln!("{}{}", String::from_utf8_lossy(&done.stdout), String::from_utf8_lossy(&done.stderr));
+            stop("`rt staticlib celt` failed, so there is nothing to link: what it said stands above")
+        }
+        Ok(_) => root.join("target/staticlib"),
+    }
 }
 
 fn main() {
@@ -22,18 +38,17 @@ fn main() {
     println!("cargo:rerun-if-changed=build.rs");
     println!("cargo:rerun-if-changed={}", root.join("crates.txt").display());
     println!("cargo:rerun-if-changed={}", root.join("crates").display());
+    println!("cargo:rerun-if-env-changed=CELT_LIBRARY");
 
-    match Command::new("rt").args(["staticlib", "celt"]).current_dir(&root).output() {
-        Err(e) => stop(&format!(
-            "libcelt.a is proved and built by the Rattle kit, and its command `rt` cannot be run ({e}). Put the kit's bin folder on the PATH; \
-             the repository's README.md, \"Run and test\", says which kit"
-        )),
-        Ok(done) if !done.status.success() => {
-            eprintln!("{}{}", String::from_utf8_lossy(&done.stdout), String::from_utf8_lossy(&done.stderr));
-            stop("`rt staticlib celt` failed, so there is nothing to link: what it said stands above")
-        }
-        Ok(_) => {}
+    let folder = match env::var_os("CELT_LIBRARY") {
+        Some(folder) => PathBuf::from(folder),
+        None => proved(&root),
+    };
+    let archive = folder.join("libcelt.a");
+    if !archive.is_file() {
+        stop(&format!("there is no {}", archive.display()));
     }
-    println!("cargo:rustc-link-search=native={}", root.join("target/staticlib").display());
+    println!("cargo:rerun-if-changed={}", archive.display());
+    println!("cargo:rustc-link-search=native={}", folder.display());
     println!("cargo:rustc-link-lib=static=celt");
 }

@@ -1,8 +1,9 @@
-//! CELT's range coder (RFC 6716), its Laplace values, pulse words, lookups and bit allocation.
+//! CELT's range coder (RFC 6716), its Laplace values, pulse words, lookups, bit allocation, energies and shapes, the stream record and the lister.
 //!
 //! Every call runs code that the Rattle prover has proved: it takes any bytes and numbers, ends, and either gives what the RFC's definition
 //! gives or refuses with a number ([`Refusal`]) and changes nothing. This crate adds no logic: [`Reader`] and [`Writer`] hold a coder's state
-//! and its bytes, and [`raw`] has the exported calls themselves, over slices of any length.
+//! and its bytes, [`Record`] the energies of a stream and its next frame number, and [`raw`] has the exported calls themselves, over slices of any
+//! length.
 //!
 //! ```
 //! # fn main() -> Result<(), celt::Refusal> {
@@ -22,16 +23,23 @@
 //! ```
 
 mod allocation;
+mod energies;
+mod exported;
+mod listing;
 mod lookups;
 pub mod raw;
 mod reader;
+mod record;
 mod refusal;
 mod state;
 mod writer;
 
 pub use allocation::{Allocation, Frame, Wishes, BANDS};
+pub use energies::{Coarse, LastBits, Shape, ENERGIES};
+pub use listing::list;
 pub use lookups::{bits2pulses, get_pulses, pulses2bits};
 pub use reader::Reader;
+pub use record::Record;
 pub use refusal::Refusal;
 pub use state::State;
 pub use writer::Writer;

@@ -11,167 +11,7 @@
 //! assert_eq!(value, [30]);
 //! ```
 
-/// The calls of libcelt.a. A slice crosses as its pointer and its length.
-mod exported {
-    extern "C" {
-        pub fn celt_dec_new(state: *mut i64, state_n: usize, packet: *const u8, packet_n: usize) -> u32;
-        pub fn celt_dec_bit_logp(
-            state: *mut i64,
-            state_n: usize,
-            packet: *const u8,
-            packet_n: usize,
-            logp: u32,
-            value: *mut u32,
-            value_n: usize,
-        ) -> u32;
-        pub fn celt_dec_icdf(
-            state: *mut i64,
-            state_n: usize,
-            packet: *const u8,
-            packet_n: usize,
-            table: *const u8,
-            table_n: usize,
-            ftb: u32,
-            value: *mut u32,
-            value_n: usize,
-        ) -> u32;
-        pub fn celt_dec_uint(
-            state: *mut i64,
-            state_n: usize,
-            packet: *const u8,
-            packet_n: usize,
-            ft: u32,
-            value: *mut u32,
-            value_n: usize,
-        ) -> u32;
-        pub fn celt_dec_bits(
-            state: *mut i64,
-            state_n: usize,
-            packet: *const u8,
-            packet_n: usize,
-            n: u32,
-            value: *mut u32,
-            value_n: usize,
-        ) -> u32;
-        pub fn celt_dec_tell(state: *const i64, state_n: usize, value: *mut u32, value_n: usize) -> u32;
-        pub fn celt_dec_tell_frac(state: *const i64, state_n: usize, value: *mut u32, value_n: usize) -> u32;
-        pub fn celt_enc_new(state: *mut i64, state_n: usize, buf: *const u8, buf_n: usize) -> u32;
-        pub fn celt_enc_bit_logp(state: *mut i64, state_n: usize, buf: *mut u8, buf_n: usize, value: u32, logp: u32) -> u32;
-        pub fn celt_enc_icdf(
-            state: *mut i64,
-            state_n: usize,
-            buf: *mut u8,
-            buf_n: usize,
-            s: u32,
-            table: *const u8,
-            table_n: usize,
-            ftb: u32,
-        ) -> u32;
-        pub fn celt_enc_uint(state: *mut i64, state_n: usize, buf: *mut u8, buf_n: usize, fl: u32, ft: u32) -> u32;
-        pub fn celt_enc_bits(state: *mut i64, state_n: usize, buf: *mut u8, buf_n: usize, v: u32, n: u32) -> u32;
-        pub fn celt_enc_close(state: *mut i64, state_n: usize, buf: *mut u8, buf_n: usize) -> u32;
-        pub fn celt_enc_tell(state: *const i64, state_n: usize, value: *mut u32, value_n: usize) -> u32;
-        pub fn celt_enc_tell_frac(state: *const i64, state_n: usize, value: *mut u32, value_n: usize) -> u32;
-        pub fn celt_laplace_decode(
-            state: *mut i64,
-            state_n: usize,
-            packet: *const u8,
-            packet_n: usize,
-            fs: u32,
-            decay: u32,
-            value: *mut i32,
-            value_n: usize,
-        ) -> u32;
-        pub fn celt_laplace_encode(
-            state: *mut i64,
-            state_n: usize,
-            buf: *mut u8,
-            buf_n: usize,
-            z: i32,
-            fs: u32,
-            decay: u32,
-            value: *mut i32,
-            value_n: usize,
-        ) -> u32;
-        pub fn celt_decode_pulses(
-            state: *mut i64,
-            state_n: usize,
-            packet: *const u8,
-            packet_n: usize,
-            y: *mut i32,
-            y_n: usize,
-            n: u32,
-            k: u32,
-            energy: *mut u32,
-            energy_n: usize,
-        ) -> u32;
-        pub fn celt_encode_pulses(
-            state: *mut i64,
-            state_n: usize,
-            buf: *mut u8,
-            buf_n: usize,
-            y: *const i32,
-            y_n: usize,
-            n: u32,
-            k: u32,
-        ) -> u32;
-        pub fn celt_get_pulses(i: i32, value: *mut u32, value_n: usize) -> u32;
-        pub fn celt_bits2pulses(band: i32, lm: i32, bits: i32, value: *mut u32, value_n: usize) -> u32;
-        pub fn celt_pulses2bits(band: i32, lm: i32, pulses: i32, value: *mut u32, value_n: usize) -> u32;
-        pub fn celt_compute_allocation_read(
-            state: *mut i64,
-            state_n: usize,
-            packet: *const u8,
-            packet_n: usize,
-            c: i32,
-            lm: i32,
-            start: i32,
-            end: i32,
-            trim: i32,
-            total: i32,
-            offsets: *const i32,
-            offsets_n: usize,
-            caps: *const i32,
-            caps_n: usize,
-            pulses: *mut i32,
-            pulses_n: usize,
-            fine: *mut i32,
-            fine_n: usize,
-            priorities: *mut i32,
-            priorities_n: usize,
-            shown: *mut i32,
-            shown_n: usize,
-        ) -> u32;
-        pub fn celt_compute_allocation_write(
-            state: *mut i64,
-            state_n: usize,
-            buf: *mut u8,
-            buf_n: usize,
-            c: i32,
-            lm: i32,
-            start: i32,
-            end: i32,
-            trim: i32,
-            total: i32,
-            intensity: i32,
-            dual: i32,
-            previous: i32,
-            bandwidth: i32,
-            offsets: *const i32,
-            offsets_n: usize,
-            caps: *const i32,
-            caps_n: usize,
-            pulses: *mut i32,
-            pulses_n: usize,
-            fine: *mut i32,
-            fine_n: usize,
-            priorities: *mut i32,
-            priorities_n: usize,
-            shown: *mut i32,
-            shown_n: usize,
-        ) -> u32;
-    }
-}
+use crate::exported;
 
 // Each call below is safe: the exported function takes any number and any length, writes only into the slices that it is lent mutably, and
 // keeps no pointer. A borrow of each slice rules out that two of them overlap where one is written.
@@ -494,6 +334,196 @@ pub fn compute_allocation_write(
             priorities.len(),
             shown.as_mut_ptr(),
             shown.len(),
+        )
+    }
+}
+
+// ---- Energies
+
+/// Coarse energies: those of the bands start..end-1 of the first c channels, in place of those of the frame before.
+#[allow(clippy::too_many_arguments)]
+pub fn unquant_coarse_energy(
+    state: &mut [i64],
+    packet: &[u8],
+    energies: &mut [f32],
+    c: i32,
+    lm: i32,
+    start: i32,
+    end: i32,
+    intra: i32,
+) -> u32 {
+    unsafe {
+        exported::celt_unquant_coarse_energy(
+            state.as_mut_ptr(),
+            state.len(),
+            packet.as_ptr(),
+            packet.len(),
+            energies.as_mut_ptr(),
+            energies.len(),
+            c,
+            lm,
+            start,
+            end,
+            intra,
+        )
+    }
+}
+
+/// The bits left over, one for each channel of a band.
+#[allow(clippy::too_many_arguments)]
+pub fn unquant_energy_finalise(
+    state: &mut [i64],
+    packet: &[u8],
+    energies: &mut [f32],
+    c: i32,
+    start: i32,
+    end: i32,
+    fine: &[i32],
+    priorities: &[i32],
+    left: i32,
+) -> u32 {
+    unsafe {
+        exported::celt_unquant_energy_finalise(
+            state.as_mut_ptr(),
+            state.len(),
+            packet.as_ptr(),
+            packet.len(),
+            energies.as_mut_ptr(),
+            energies.len(),
+            c,
+            start,
+            end,
+            fine.as_ptr(),
+            fine.len(),
+            priorities.as_ptr(),
+            priorities.len(),
+            left,
+        )
+    }
+}
+
+// ---- Shapes
+
+/// The shape of a vector of n places and k pulses, and which of its b parts hold a pulse.
+#[allow(clippy::too_many_arguments)]
+pub fn alg_unquant(
+    state: &mut [i64],
+    packet: &[u8],
+    shape: &mut [f32],
+    n: i32,
+    k: i32,
+    spread: i32,
+    b: i32,
+    gain: f32,
+    mask: &mut [u32],
+) -> u32 {
+    unsafe {
+        exported::celt_alg_unquant(
+            state.as_mut_ptr(),
+            state.len(),
+            packet.as_ptr(),
+            packet.len(),
+            shape.as_mut_ptr(),
+            shape.len(),
+            n,
+            k,
+            spread,
+            b,
+            gain,
+            mask.as_mut_ptr(),
+            mask.len(),
+        )
+    }
+}
+
+// ---- The stream record
+
+/// The record before the first frame.
+pub fn record_fresh(energies: &mut [f32], next: &mut [u64]) -> u32 {
+    unsafe { exported::celt_record_fresh(energies.as_mut_ptr(), energies.len(), next.as_mut_ptr(), next.len()) }
+}
+
+/// A frame's number against the next one: 0, 10 or 11.
+pub fn record_order(next: u64, number: u64) -> u32 {
+    unsafe { exported::celt_record_order(next, number) }
+}
+
+/// Frame `number`, whose coarse energies the reader stands before.
+#[allow(clippy::too_many_arguments)]
+pub fn record_frame(
+    energies: &mut [f32],
+    next: &mut [u64],
+    state: &mut [i64],
+    packet: &[u8],
+    number: u64,
+    c: i32,
+    lm: i32,
+    start: i32,
+    end: i32,
+    intra: i32,
+) -> u32 {
+    unsafe {
+        exported::celt_record_frame(
+            energies.as_mut_ptr(),
+            energies.len(),
+            next.as_mut_ptr(),
+            next.len(),
+            state.as_mut_ptr(),
+            state.len(),
+            packet.as_ptr(),
+            packet.len(),
+            number,
+            c,
+            lm,
+            start,
+            end,
+            intra,
+        )
+    }
+}
+
+/// The record's line, without a line feed, to the front of a buffer of 390 bytes or more, and its length.
+pub fn record_save(energies: &[f32], next: u64, buf: &mut [u8], length: &mut [usize]) -> u32 {
+    unsafe {
+        exported::celt_record_save(
+            energies.as_ptr(),
+            energies.len(),
+            next,
+            buf.as_mut_ptr(),
+            buf.len(),
+            length.as_mut_ptr(),
+            length.len(),
+        )
+    }
+}
+
+/// The record of a line without its line feed.
+pub fn record_restore(line: &[u8], energies: &mut [f32], next: &mut [u64]) -> u32 {
+    unsafe {
+        exported::celt_record_restore(
+            line.as_ptr(),
+            line.len(),
+            energies.as_mut_ptr(),
+            energies.len(),
+            next.as_mut_ptr(),
+            next.len(),
+        )
+    }
+}
+
+// ---- The lister
+
+/// The lister's answer to a line without its line feed, to the front of a buffer of 1,200 bytes or more, and its length.
+pub fn list(line: &[u8], number: u32, out: &mut [u8], length: &mut [usize]) -> u32 {
+    unsafe {
+        exported::celt_list(
+            line.as_ptr(),
+            line.len(),
+            number,
+            out.as_mut_ptr(),
+            out.len(),
+            length.as_mut_ptr(),
+            length.len(),
         )
     }
 }

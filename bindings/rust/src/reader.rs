@@ -1,4 +1,4 @@
-use crate::{raw, Allocation, Frame, Refusal, State, ROOM};
+use crate::{raw, Allocation, Coarse, Frame, LastBits, Refusal, Shape, State, ENERGIES, ROOM};
 
 /// A reader of a packet. A refused call leaves it as it was.
 ///
@@ -138,6 +138,93 @@ impl<'a> Reader<'a> {
         ))?;
         into.show(shown);
         Ok(())
+    }
+
+    /// The coarse energies of a frame, in place of those of the frame before; the bands outside start..end, and channel 1 of a mono frame, stay as they
+    /// are.
+    ///
+    /// ```
+    /// # fn main() -> Result<(), celt::Refusal> {
+    /// let coarse = celt::Coarse { channels: 1, lm: 0, start: 0, end: 1, intra: true };
+    /// let mut energies = [0.0; 42];
+    /// celt::Reader::new(&[])?.coarse(&mut energies, &coarse)?;
+    /// assert_eq!(energies[..2], [-1.0, 0.0]);
+    ///
+    /// energies[41] = f32::INFINITY;
+    /// assert_eq!(celt::Reader::new(&[])?.coarse(&mut energies, &coarse), Err(celt::Refusal::Entry));
+    /// # Ok(())
+    /// # }
+    /// ```
+    pub fn coarse(&mut self, energies: &mut [f32; ENERGIES], coarse: &Coarse) -> Result<(), Refusal> {
+        Refusal::check(raw::unquant_coarse_energy(
+            &mut self.state.0,
+            self.packet,
+            energies,
+            coarse.channels,
+            coarse.lm,
+            coarse.start,
+            coarse.end,
+            coarse.intra.into(),
+        ))
+    }
+
+    /// The bits left over at the end of a frame, one for each channel of a band, those of priority 0 first.
+    ///
+    /// ```
+    /// # fn main() -> Result<(), celt::Refusal> {
+    /// let mut last = celt::LastBits { channels: 1, start: 0, end: 1, left: 1, ..Default::default() };
+    /// last.fine[0] = 7;
+    /// let mut energies = [0.0; 42];
+    /// celt::Reader::new(&[1])?.finalise(&mut energies, &last)?;
+    /// assert_eq!(energies[0], 1.0 / 512.0);
+    ///
+    /// last.fine[0] = 9;
+    /// assert_eq!(celt::Reader::new(&[1])?.finalise(&mut energies, &last), Err(celt::Refusal::Entry));
+    /// # Ok(())
+    /// # }
+    /// ```
+    pub fn finalise(&mut self, energies: &mut [f32; ENERGIES], last: &LastBits) -> Result<(), Refusal> {
+        Refusal::check(raw::unquant_energy_finalise(
+            &mut self.state.0,
+            self.packet,
+            energies,
+            last.channels,
+            last.start,
+            last.end,
+            &last.fine,
+            &last.priorities,
+            last.left,
+        ))
+    }
+
+    /// The shape of a vector of as many places as `into` has, 2..176; gives the mask of the parts that hold a pulse.
+    ///
+    /// ```
+    /// # fn main() -> Result<(), celt::Refusal> {
+    /// let mut y = [0; 176];
+    /// y[..4].copy_from_slice(&[1, -1, 1, 1]);
+    /// let mut bytes = [0; 8];
+    /// let mut writer = celt::Writer::new(&mut bytes)?;
+    /// writer.pulses(&y, 4, 4)?;
+    /// writer.close()?;
+    ///
+    /// let mut into = [0.0; 4];
+    /// let mask = celt::Reader::new(&bytes)?.shape(&mut into, &celt::Shape { k: 4, spread: 0, b: 2, gain: 1.0 })?;
+    /// assert_eq!((into, mask), ([0.5, -0.5, 0.5, 0.5], 3));
+    ///
+    /// let turned = celt::Shape { k: 1, spread: 1, b: 2, gain: 1.0 };
+    /// assert_eq!(celt::Reader::new(&bytes)?.shape(&mut into, &turned), Err(celt::Refusal::Rotation));
+    /// # Ok(())
+    /// # }
+    /// ```
+    pub fn shape(&mut self, into: &mut [f32], shape: &Shape) -> Result<u32, Refusal> {
+        let n = i32::try_from(into.len()).map_err(|_| Refusal::Length)?;
+        self.read(|state, packet, mask| raw::alg_unquant(state, packet, into, n, shape.k, shape.spread, shape.b, shape.gain, mask))
+    }
+
+    /// The state to be changed, and the packet.
+    pub(crate) fn parts(&mut self) -> (&mut [i64], &[u8]) {
+        (&mut self.state.0, self.packet)
     }
 
     fn read(&mut self, call: impl FnOnce(&mut [i64], &[u8], &mut [u32]) -> u32) -> Result<u32, Refusal> {

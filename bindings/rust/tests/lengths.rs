@@ -49,6 +49,19 @@ fn states() {
         assert_eq!(raw::laplace_encode(&mut s, &mut bytes, i32::MIN, 0, 0, &mut z), 2);
         assert_eq!(raw::encode_pulses(&mut s, &mut bytes, &y, 3, 1), 2);
         assert_eq!(raw::decode_pulses(&mut s, &bytes, &mut y, 3, 1, &mut v), 2);
+        assert_eq!(raw::unquant_coarse_energy(&mut s, &bytes, &mut [f32::NAN; 42], 9, 9, 9, 9, 9), 2);
+        assert_eq!(
+            raw::unquant_energy_finalise(&mut s, &bytes, &mut [f32::NAN; 42], 9, 9, 9, &[9; 21], &[9; 21], 9),
+            2
+        );
+        assert_eq!(
+            raw::alg_unquant(&mut s, &bytes, &mut [f32::NAN; 9], 9, 0, 9, 0, f32::NAN, &mut v),
+            2
+        );
+        assert_eq!(
+            raw::record_frame(&mut [f32::NAN; 42], &mut [u64::MAX], &mut s, &bytes, u64::MAX, 9, 9, 9, 9, 9),
+            2
+        );
         assert_eq!(s, vec![-5; n]);
     }
     assert_eq!((bytes, v, z, y), ([7; 9], [77], [78], [79; 176]));
@@ -69,6 +82,16 @@ fn values() {
     wrong_values(1u32, |v| raw::enc_tell_frac(&state, v));
     wrong_values(1i32, |v| raw::laplace_decode(&mut state.clone(), &bytes, 72 << 7, 127 << 6, v));
     wrong_values(1u32, |v| raw::decode_pulses(&mut state.clone(), &bytes, &mut [0; 176], 3, 1, v));
+    wrong_values(1u32, |v| {
+        raw::alg_unquant(&mut state.clone(), &bytes, &mut [0.0; 3], 3, 1, 0, 1, 1.0, v)
+    });
+    wrong_values(1u64, |v| raw::record_fresh(&mut [0.0; 42], v));
+    wrong_values(1u64, |v| {
+        raw::record_frame(&mut [0.0; 42], v, &mut state.clone(), &bytes, 0, 1, 0, 0, 21, 0)
+    });
+    wrong_values(1u64, |v| raw::record_restore(b"", &mut [0.0; 42], v));
+    wrong_values(1usize, |v| raw::record_save(&[0.0; 42], 0, &mut [0; 390], v));
+    wrong_values(1usize, |v| raw::list(b"", 0, &mut [0; 1200], v));
     wrong_values(1u32, |v| raw::get_pulses(99, v));
     wrong_values(1u32, |v| raw::bits2pulses(99, 99, 99, v));
     wrong_values(1u32, |v| raw::pulses2bits(99, 99, 99, v));
@@ -143,6 +166,63 @@ fn lists() {
             assert_eq!((d0, w0, b0), (d, w, bytes));
         }
     }
+}
+
+/// The lists of energies, shapes, records and lines, with numbers that are wrong too. A list of floats stays bit for bit, NaNs too.
+#[test]
+fn energies_and_lines() {
+    let bytes = [7; 9];
+    let wild = f32::from_bits(0x7fa5_a5a5);
+    let mut state = [0; 12];
+    assert_eq!(raw::dec_new(&mut state, &bytes), 0);
+    let before = state;
+    for n in [0, 1, 21, 41, 43, 84] {
+        let mut e = vec![wild; n];
+        let mut next = [u64::MAX];
+        let mut length = [usize::MAX];
+        let mut buf = [7; 390];
+        assert_eq!(raw::unquant_coarse_energy(&mut state, &bytes, &mut e, 9, 9, 9, 9, 9), 2);
+        assert_eq!(
+            raw::unquant_energy_finalise(&mut state, &bytes, &mut e, 9, 9, 9, &[9; 21], &[9; 21], 9),
+            2
+        );
+        assert_eq!(raw::record_fresh(&mut e, &mut next), 2);
+        assert_eq!(raw::record_frame(&mut e, &mut next, &mut state, &bytes, u64::MAX, 9, 9, 9, 9, 9), 2);
+        assert_eq!(raw::record_save(&e, u64::MAX, &mut buf, &mut length), 2);
+        assert_eq!(raw::record_restore(b"no line", &mut e, &mut next), 2);
+        assert!(e.iter().all(|x| x.to_bits() == wild.to_bits()));
+        assert_eq!((state, next, length, buf), (before, [u64::MAX], [usize::MAX], [7; 390]));
+    }
+    for n in [0, 1, 20, 22, 42] {
+        let mut e = [wild; 42];
+        let wrong = vec![9; n];
+        assert_eq!(
+            raw::unquant_energy_finalise(&mut state, &bytes, &mut e, 9, 9, 9, &wrong, &[9; 21], 9),
+            2
+        );
+        assert_eq!(
+            raw::unquant_energy_finalise(&mut state, &bytes, &mut e, 9, 9, 9, &[9; 21], &wrong, 9),
+            2
+        );
+        assert!(e.iter().all(|x| x.to_bits() == wild.to_bits()));
+    }
+    for (places, n) in [(0, 1), (1, 0), (8, 9), (9, 8), (9, -9), (0, i32::MIN), (9, i32::MAX)] {
+        let mut shape = vec![wild; places];
+        let mut mask = [7];
+        assert_eq!(raw::alg_unquant(&mut state, &bytes, &mut shape, n, 0, 9, 0, f32::NAN, &mut mask), 2);
+        assert!(mask == [7] && shape.iter().all(|x| x.to_bits() == wild.to_bits()));
+    }
+    for n in [0, 1, 389] {
+        let mut buf = vec![7; n];
+        assert_eq!(raw::record_save(&[0.0; 42], 0, &mut buf, &mut [0]), 2);
+        assert_eq!(buf, vec![7; n]);
+    }
+    for n in [0, 1, 1199] {
+        let mut out = vec![7; n];
+        assert_eq!(raw::list(b"", 0, &mut out, &mut [0]), 2);
+        assert_eq!(out, vec![7; n]);
+    }
+    assert_eq!(state, before);
 }
 
 /// The bytes' count against the storage, and the greatest storage.

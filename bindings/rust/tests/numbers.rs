@@ -1,6 +1,6 @@
 //! Numbers at the borders of the domain and far outside it.
 
-use celt::{Allocation, Frame, Reader, Refusal, Wishes, Writer};
+use celt::{Allocation, Coarse, Frame, LastBits, Reader, Record, Refusal, Shape, Wishes, Writer};
 
 const MAX: u32 = u32::MAX;
 
@@ -188,4 +188,181 @@ fn figures() {
     for (i, pulses) in [(7, 7), (8, 8), (23, 30), (40, 128)] {
         assert_eq!(celt::get_pulses(i), Ok(pulses));
     }
+}
+
+#[test]
+fn energies() {
+    let packet = [0x6d; 30];
+    let fresh = Reader::new(&packet).unwrap();
+    let good = Coarse {
+        channels: 2,
+        lm: 2,
+        start: 3,
+        end: 19,
+        intra: false,
+    };
+    let mut wrong = vec![];
+    for far in [i32::MIN, -1, i32::MAX] {
+        wrong.push(Coarse { channels: far, ..good });
+        wrong.push(Coarse { lm: far, ..good });
+        wrong.push(Coarse { start: far, ..good });
+        wrong.push(Coarse { end: far, ..good });
+    }
+    wrong.extend([
+        Coarse { channels: 0, ..good },
+        Coarse { channels: 3, ..good },
+        Coarse { lm: 4, ..good },
+        Coarse { start: 19, ..good },
+        Coarse { end: 22, ..good },
+        Coarse { end: 3, ..good },
+    ]);
+    let mut energies = [0.5; 42];
+    for coarse in &wrong {
+        let mut r = fresh.clone();
+        let mut record = Record::fresh();
+        assert_eq!(r.coarse(&mut energies, coarse), Err(Refusal::Number), "{coarse:?}");
+        assert_eq!(record.frame(&mut r, 0, coarse), Err(Refusal::Number), "{coarse:?}");
+        assert_eq!(record.frame(&mut r, 1, coarse), Err(Refusal::Number), "{coarse:?}");
+        let last = LastBits {
+            channels: coarse.channels,
+            start: coarse.start,
+            end: coarse.end,
+            ..Default::default()
+        };
+        let lm_alone = coarse.lm != good.lm;
+        assert_eq!(
+            r.finalise(&mut energies, &last),
+            if lm_alone { Ok(()) } else { Err(Refusal::Number) },
+            "{last:?}"
+        );
+        assert_eq!((&r, energies, record), (&fresh, [0.5; 42], Record::fresh()));
+    }
+    for (place, fine, priority) in [(0, 9, 0), (20, -1, 0), (20, 0, 2), (0, 0, -1), (7, i32::MIN, i32::MAX)] {
+        let mut last = LastBits {
+            channels: 1,
+            start: 3,
+            end: 4,
+            left: i32::MAX,
+            ..Default::default()
+        };
+        last.fine[place] = fine;
+        last.priorities[place] = priority;
+        let mut r = fresh.clone();
+        assert_eq!(r.finalise(&mut energies, &last), Err(Refusal::Entry), "{last:?}");
+        assert_eq!((&r, energies), (&fresh, [0.5; 42]));
+    }
+    for place in [0, 3, 20, 21, 41] {
+        for wild in [f32::NAN, f32::INFINITY, f32::NEG_INFINITY] {
+            let mut energies = [0.5; 42];
+            energies[place] = wild;
+            let before = energies.map(f32::to_bits);
+            let mut r = fresh.clone();
+            let last = LastBits {
+                channels: 1,
+                start: 3,
+                end: 4,
+                ..Default::default()
+            };
+            assert_eq!(r.coarse(&mut energies, &Coarse { channels: 1, ..good }), Err(Refusal::Entry));
+            assert_eq!(r.finalise(&mut energies, &last), Err(Refusal::Entry));
+            let mut record = Record::from_parts(energies, 5);
+            for number in [4, 5, 6] {
+                assert_eq!(record.frame(&mut r, number, &good), Err(Refusal::Entry));
+            }
+            assert_eq!(record.save(), Err(Refusal::Entry));
+            assert_eq!((energies.map(f32::to_bits), r), (before, fresh.clone()));
+        }
+    }
+}
+
+#[test]
+fn shapes() {
+    let packet = [0x6d; 30];
+    let fresh = Reader::new(&packet).unwrap();
+    let good = Shape {
+        k: 4,
+        spread: 0,
+        b: 4,
+        gain: -1.0,
+    };
+    let mut into = [0.25; 16];
+    let mut wrong = vec![];
+    for far in [i32::MIN, -1, i32::MAX] {
+        wrong.push((Shape { k: far, ..good }, Refusal::Number));
+        wrong.push((Shape { spread: far, ..good }, Refusal::Number));
+        wrong.push((Shape { b: far, ..good }, Refusal::Number));
+    }
+    wrong.extend([
+        (Shape { k: 0, ..good }, Refusal::Number),
+        (Shape { k: 129, ..good }, Refusal::Number),
+        (Shape { spread: 4, ..good }, Refusal::Number),
+        (Shape { b: 0, ..good }, Refusal::Number),
+        (Shape { b: 3, ..good }, Refusal::Number),
+        (Shape { b: 17, ..good }, Refusal::Number),
+        (Shape { gain: f32::NAN, ..good }, Refusal::Entry),
+        (
+            Shape {
+                gain: 1.0 + f32::EPSILON,
+                ..good
+            },
+            Refusal::Entry,
+        ),
+        (Shape { gain: f32::MIN, ..good }, Refusal::Entry),
+        (
+            Shape {
+                gain: f32::NEG_INFINITY,
+                ..good
+            },
+            Refusal::Entry,
+        ),
+        (Shape { k: 128, ..good }, Refusal::Count),
+        (Shape { k: 128, spread: 1, ..good }, Refusal::Count),
+        (Shape { spread: 1, ..good }, Refusal::Rotation),
+        (Shape { k: 7, spread: 3, ..good }, Refusal::Rotation),
+    ]);
+    for (shape, no) in wrong {
+        let mut r = fresh.clone();
+        assert_eq!(r.shape(&mut into, &shape), Err(no), "{shape:?}");
+        assert_eq!((&r, into), (&fresh, [0.25; 16]));
+    }
+    for places in [0, 1, 177, 1000] {
+        assert_eq!(
+            fresh.clone().shape(&mut vec![0.0; places], &Shape { b: 1, ..good }),
+            Err(Refusal::Number)
+        );
+    }
+    for (places, k, b) in [(2, 128, 2), (176, 1, 16), (176, 3, 11), (16, 8, 16), (109, 5, 1)] {
+        let mut into = vec![9.0; places];
+        let spread = if 2 * k < places as i32 { 0 } else { 3 };
+        let mask = fresh.clone().shape(&mut into, &Shape { k, spread, b, gain: 1.0 }).unwrap();
+        assert!(mask > 0 && mask < 1 << b);
+        let energy: f64 = into.iter().map(|&x| f64::from(x) * f64::from(x)).sum();
+        assert!((energy - 1.0).abs() < 1e-5, "{energy}");
+    }
+}
+
+/// Document 01's figures of energies: a last bit with 7 fine bits adds 1/512, and an empty packet with intra gives -1 in band 0.
+#[test]
+fn energy_figures() {
+    let mut last = LastBits {
+        channels: 1,
+        start: 0,
+        end: 1,
+        left: 1,
+        ..Default::default()
+    };
+    last.fine[0] = 7;
+    let mut energies = [0.0; 42];
+    Reader::new(&[1]).unwrap().finalise(&mut energies, &last).unwrap();
+    assert_eq!((energies[0], &energies[1..]), (1.0 / 512.0, &[0.0; 41][..]));
+    let coarse = Coarse {
+        channels: 1,
+        lm: 0,
+        start: 0,
+        end: 1,
+        intra: true,
+    };
+    let mut energies = [0.0; 42];
+    Reader::new(&[]).unwrap().coarse(&mut energies, &coarse).unwrap();
+    assert_eq!((energies[0], &energies[1..]), (-1.0, &[0.0; 41][..]));
 }

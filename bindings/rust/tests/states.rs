@@ -5,7 +5,7 @@ mod common;
 use celt::raw;
 use common::{close_refusal, read_refusal, reader_ok, some_state, write_refusal, writer_ok, Random};
 
-const ROUNDS: usize = 200_000;
+const ROUNDS: usize = 60_000;
 
 #[test]
 fn readers() {
@@ -19,27 +19,35 @@ fn readers() {
         assert_eq!(raw::dec_tell_frac(&state, &mut told) == 0, reader_ok(&state));
         let want = read_refusal(&state, packet.len());
         seen[want as usize] += 1;
-        for call in 0..6 {
+        for call in 0..10 {
             let (mut s, mut value, mut z, mut y) = (state, [99], [98], [97; 176]);
+            let (mut energies, mut shape, mut next) = ([1.5; 42], [2.5; 9], [96]);
             let answer = match call {
                 0 => raw::dec_bit_logp(&mut s, &packet, 1, &mut value),
                 1 => raw::dec_icdf(&mut s, &packet, &[200, 3, 0], 8, &mut value),
                 2 => raw::dec_uint(&mut s, &packet, 1_000_000, &mut value),
                 3 => raw::dec_bits(&mut s, &packet, 25, &mut value),
                 4 => raw::laplace_decode(&mut s, &packet, 72 << 7, 127 << 6, &mut z),
-                _ => raw::decode_pulses(&mut s, &packet, &mut y, 9, 7, &mut value),
+                5 => raw::decode_pulses(&mut s, &packet, &mut y, 9, 7, &mut value),
+                6 => raw::unquant_coarse_energy(&mut s, &packet, &mut energies, 2, 3, 0, 21, 0),
+                7 => raw::unquant_energy_finalise(&mut s, &packet, &mut energies, 2, 0, 21, &[3; 21], &[1; 21], 30),
+                8 => raw::alg_unquant(&mut s, &packet, &mut shape, 9, 7, 2, 3, -1.0, &mut value),
+                _ => raw::record_frame(&mut energies, &mut next, &mut s, &packet, 96, 1, 0, 0, 21, 1),
             };
             assert_eq!(answer, want, "call {call} on {state:?}");
             if answer == 0 {
                 assert!(reader_ok(&s) || s[4] > 65_535, "{state:?} became {s:?}");
                 assert!(s[10] == 0 || s[10] == 1);
                 assert_eq!(s[11], 0);
+                assert!(energies.iter().all(|e| e.is_finite()) && shape.iter().all(|x| x.abs() <= 2.5));
+                assert_eq!(next, [if call == 9 { 97 } else { 96 }]);
             } else {
                 assert_eq!((s, value, z, y), (state, [99], [98], [97; 176]));
+                assert_eq!((energies, shape, next), ([1.5; 42], [2.5; 9], [96]));
             }
         }
     }
-    assert!([0, 1, 2, 4].iter().all(|&n| seen[n] > 1000), "{seen:?}");
+    assert!([0, 1, 2, 4].iter().all(|&n| seen[n] > 300), "{seen:?}");
 }
 
 #[test]
@@ -82,5 +90,5 @@ fn writers() {
             }
         }
     }
-    assert!([0, 1, 2, 4, 12].iter().all(|&n| seen[n] > 1000), "{seen:?}");
+    assert!([0, 1, 2, 4, 12].iter().all(|&n| seen[n] > 300), "{seen:?}");
 }

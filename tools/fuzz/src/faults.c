@@ -1,0 +1,61 @@
+/* Faults, to see that the driver finds them: celt_dec_bits with one of them, in one call of some hundred. Linked with --wrap=celt_dec_bits; FAULT says
+ * which. */
+#include "calls.h"
+
+#include <stdlib.h>
+
+uint32_t __real_celt_dec_bits(int64_t *state, size_t state_n, const uint8_t *packet, size_t packet_n, uint32_t n, uint32_t *value, size_t value_n);
+uint32_t __wrap_celt_dec_bits(int64_t *state, size_t state_n, const uint8_t *packet, size_t packet_n, uint32_t n, uint32_t *value, size_t value_n);
+
+static volatile uint8_t sink;
+
+uint32_t __wrap_celt_dec_bits(int64_t *state, size_t state_n, const uint8_t *packet, size_t packet_n, uint32_t n, uint32_t *value, size_t value_n) {
+    static unsigned count;
+    uint32_t answer = __real_celt_dec_bits(state, state_n, packet, packet_n, n, value, value_n);
+    if (++count % 300 != 0)
+        return answer;
+    switch (FAULT) {
+    case 1: /* reads past the end: often enough a page that cannot be read */
+        sink = packet[packet_n];
+        break;
+    case 2: /* reads before the beginning */
+        sink = packet[-1];
+        break;
+    case 3: /* writes past the end */
+        value[value_n] = 0;
+        break;
+    case 4: /* writes before the beginning */
+        value[-1] = 0;
+        break;
+    case 5: /* writes what already stands there to a list that is lent for reading */
+        if (packet_n > 0)
+            *(volatile uint8_t *)(uintptr_t)packet = packet[0];
+        break;
+    case 6: /* changes a list although it is refused */
+        if (answer != 0 && state_n > 0)
+            state[state_n - 1]++;
+        break;
+    case 7: /* refuses with a number that is none */
+        return 99;
+    case 8: /* refuses with another number */
+        if (answer == 1)
+            return 2;
+        break;
+    case 9: /* refuses what it should answer, after it has changed the state */
+        return 4;
+    case 10: /* does not end */
+        for (;;)
+            sink++;
+    case 11: /* leaves a state that breaks its rule */
+        if (answer == 0)
+            state[CELT_RNG] = 0;
+        break;
+    case 12: /* answers a number that is none of the symbol's */
+        if (answer == 0)
+            value[0] = 1u << n;
+        break;
+    default:
+        abort();
+    }
+    return answer;
+}
