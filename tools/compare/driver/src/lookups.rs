@@ -6,7 +6,7 @@ use oracle::celt::modes::static_modes_float_h::{cache_bits50, cache_index50};
 use oracle::celt::{modes, rate};
 
 /// The row of a band and an LM in the crate's cache, where there is one: its entries, the first of which says how many follow.
-fn row(band: i32, lm: i32) -> Option<&'static [u8]> {
+pub fn row(band: i32, lm: i32) -> Option<&'static [u8]> {
     let at = usize::try_from(cache_index50[((lm + 1) * 21 + band) as usize]).ok()?;
     Some(&cache_bits50[at..=at + cache_bits50[at] as usize])
 }

@@ -3,6 +3,7 @@
 use crate::exports;
 use crate::tally::{Name, NAMES};
 use crate::Run;
+use driver::lookups::row;
 use driver::random::Random;
 use driver::refusals;
 use oracle::celt::{modes, rate};
@@ -40,13 +41,13 @@ impl Ask {
             Ask::GetPulses(i) => ((0..=40).contains(&i), 0),
             Ask::Bits2Pulses(band, lm, bits) => {
                 let numbers = known(band, lm) && (-81600..=81600).contains(&bits);
-                (numbers, if numbers && rate::row_length(band, lm).is_none() { 5 } else { 0 })
+                (numbers, if numbers && row(band, lm).is_none() { 5 } else { 0 })
             }
             Ask::Pulses2Bits(band, lm, pulses) => {
                 let numbers = known(band, lm);
-                let own = match numbers.then(|| rate::row_length(band, lm)).flatten() {
+                let own = match numbers.then(|| row(band, lm)).flatten() {
                     None => 5,
-                    Some(most) if !(0..=most).contains(&pulses) => 6,
+                    Some(row) if !(0..row.len() as i32).contains(&pulses) => 6,
                     Some(_) => 0,
                 };
                 (numbers, own)
