@@ -2,7 +2,7 @@
 -- Assumes nothing.
 use Prim.Native.Nat.{ℕ, zero, suc, _+_, _-_, _≤_, _<_}
 use mathlib.Core.Path.{_≡_, refl, sym, ap, _∙_}
-use mathlib.Core.Bool.{Bool, true, false, _&&_, and-eq-true-iff}
+use mathlib.Core.Bool.{Bool, true, false, _&&_, and-eq-true-iff, and-assoc}
 use mathlib.Core.List.{List, [], _∷_, _++_, map}
 use mathlib.Core.Logic.{⊎-elim}
 use native.Mathlib.Nat.{add-zero, eq-or-lt-of-le}
@@ -80,15 +80,15 @@ module _ {A : Type 0} where
       unfolding every
       every-step = rw (drop-next l i d h)
 
-      pub every-yes : {b : Bool} → b ≡ f (getD l i d) → b ≡ true → every f (drop i l) ≡ every f (drop (i + 1) l)
-      every-yes p q = let w : f (getD l i d) ≡ true = cc in rw (every-step, w)
+      -- a test so far, and then of the i-th entry and of those after it, is the test so far and of all from the i-th on
+      pub every-on : (a : Bool) {b : Bool} → b ≡ f (getD l i d) → ((a && b) && every f (drop (i + 1) l)) ≡ (a && every f (drop i l))
+      every-on a {b} p = and-assoc a b (every f (drop (i + 1) l)) ∙ ap (λ (q : Bool). a && q) (rw p (sym every-step))
 
-      pub every-no : {b : Bool} → b ≡ f (getD l i d) → b ≡ false → every f (drop i l) ≡ false
-      every-no p q = let w : f (getD l i d) ≡ false = cc in rw (every-step, w)
-
-    pub every-end : (l : List A) (i : ℕ) → length l ≤ i → every f (drop i l) ≡ true
+    -- past the last entry nothing is left to test
+    pub every-end : (a : Bool) (l : List A) (i : ℕ) → length l ≤ i → (a && every f (drop i l)) ≡ a
     unfolding every
-    every-end l i h = rw (drop-of-length-le l h)
+    every-end true l i h = rw (drop-of-length-le l h)
+    every-end false l i h = refl
 
   -- ---- a list filled by f
 

@@ -91,19 +91,19 @@ pub fn value_of(neg: bool, n: u32) -> i32
     n as i32
 }
 
-// Whether every entry is lo..hi.
+// Whether every entry is lo..hi. All are looked at, so that several can be tested in one step.
 pub fn list_ok(l: &[i32], lo: i32, hi: i32) -> bool
     ensures { λ r. ⌜ r ≡ every (inRange lo hi) (now (l .entry)) ⌝ }
 {
+    let mut ok = true;
     let mut i: usize = 0;
     while i < l.len() {
         let v = l[i];
-        if !in_range(v, lo, hi) {
-            return false;
-        }
+        let inside = in_range(v, lo, hi);
+        ok = ok & inside;
         i += 1;
     }
-    true
+    ok
 }
 
 // Whether x is neither a NaN nor an infinity.
@@ -114,17 +114,17 @@ pub fn is_finite(x: f32) -> bool
     if x < top { -top < x } else { false }
 }
 
-// Whether every entry is finite.
+// Whether every entry is finite, tested in the same way.
 pub fn all_finite(l: &[f32]) -> bool
     ensures { λ r. ⌜ r ≡ every finite (now (l .entry)) ⌝ }
 {
+    let mut ok = true;
     let mut i: usize = 0;
     while i < l.len() {
         let x = l[i];
-        if !is_finite(x) {
-            return false;
-        }
+        let inside = is_finite(x);
+        ok = ok & inside;
         i += 1;
     }
-    true
+    ok
 }

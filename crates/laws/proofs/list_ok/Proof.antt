@@ -1,9 +1,9 @@
--- `laws::list_ok`: what is left of the test from the i-th entry on is the whole test. Assumes nothing.
+-- `laws::list_ok`: the test so far and what is left of it from the i-th entry on are the whole test. Assumes nothing.
 use Prim.Native.Nat.{_-_, _≤_}
 use mathlib.Core.Path.{_≡_, refl, sym, _∙_}
+use mathlib.Core.Bool.{_&&_}
 use native.Mathlib.Omega.{arith}
 use borrow.Author.Needs.{needs}
-use borrow.Author.Tests.{not-true, not-false}
 use lib.IntN.{pos}
 use lib.ListN.{length, getD, drop}
 use mir.Syntax.{w32}
@@ -11,16 +11,16 @@ use mir.Val.{SFits, toZ}
 use mir.Facts.{toZ-ofZ}
 use Rattle.laws.specs.Lists.{every}
 use Rattle.laws.specs.Signs.{inRange}
-use Rattle.laws.proofs.Lists.{every-yes, every-no, every-end}
+use Rattle.laws.proofs.Lists.{every-on, every-end}
 use Rattle.laws.proofs.list_ok.Statement.{statement}
 use Rattle.laws.proofs.list_ok.Tie as tie
 
 abbrev Inv-loop : tie.InvT-loop
-Inv-loop l lo hi i₀ i =
-    (i ≤ length l) × (every (inRange (toZ w32 lo) (toZ w32 hi)) (drop i l) ≡ every (inRange (toZ w32 lo) (toZ w32 hi)) l)
+Inv-loop l lo hi ok₀ i₀ ok i =
+    (i ≤ length l) × ((ok && every (inRange (toZ w32 lo) (toZ w32 hi)) (drop i l)) ≡ every (inRange (toZ w32 lo) (toZ w32 hi)) l)
 
 abbrev μ-loop : tie.MeasureT-loop
-μ-loop l lo hi i₀ i = length l - i
+μ-loop l lo hi ok₀ i₀ ok i = length l - i
 
 loop-holds : tie.Need-loop-holds Inv-loop μ-loop
 loop-holds c = (omega arith, refl)
@@ -34,16 +34,6 @@ shared-slice-copy-out-v c = search needs
 in-range-requires : tie.Need-in-range-requires Inv-loop μ-loop
 in-range-requires c κs = search needs
 
-returns : tie.Need-returns Inv-loop μ-loop
-returns c =
-    let p = c .before .before .before .before in
-    let a = p .before .args in
-    let f = p .before .fits in
-    let v : SFits w32 (getD (a .l .now) (p .loop .i) (pos 0)) = record { sfits = c .before .before .v .given } in
-    sym (every-no (inRange (a .lo) (a .hi)) (a .l .now) (p .loop .i) (pos 0) (omega arith)
-    (rw (toZ-ofZ (f .lo), toZ-ofZ (f .hi), toZ-ofZ v) at (c .before .in-range .ensures)) (not-true _ (c .if1 .taken)))
-    ∙ (rw (toZ-ofZ (f .lo), toZ-ofZ (f .hi)) at (p .loop .inv .1))
-
 add-i : tie.Need-add-i Inv-loop μ-loop
 add-i c = omega arith
 
@@ -52,36 +42,25 @@ loop-less c = omega arith
 
 loop-again : tie.Need-loop-again Inv-loop μ-loop
 loop-again c =
-    let p = c .before .before .before .before in
+    let p = c .before .before .before in
     let a = p .before .args in
     let f = p .before .fits in
-    let v : SFits w32 (getD (a .l .now) (p .loop .i) (pos 0)) = record { sfits = c .before .before .v .given } in (
+    let v : SFits w32 (getD (a .l .now) (p .loop .i) (pos 0)) = record { sfits = c .before .v .given } in (
       omega arith,
       rw (toZ-ofZ (f .lo), toZ-ofZ (f .hi))
-          (sym (every-yes (inRange (a .lo) (a .hi)) (a .l .now) (p .loop .i) (pos 0) (omega arith)
-          (rw (toZ-ofZ (f .lo), toZ-ofZ (f .hi), toZ-ofZ v) at (c .before .in-range .ensures)) (not-false _ (c .if1 .left)))
+          (every-on (inRange (a .lo) (a .hi)) (a .l .now) (p .loop .i) (pos 0) (omega arith) (p .loop .ok)
+          (rw (toZ-ofZ (f .lo), toZ-ofZ (f .hi), toZ-ofZ v) at (c .in-range .ensures))
           ∙ (rw (toZ-ofZ (f .lo), toZ-ofZ (f .hi)) at (p .loop .inv .1))),
     )
 
-returns-2 : tie.Need-returns-2 Inv-loop μ-loop
-returns-2 c =
+returns : tie.Need-returns Inv-loop μ-loop
+returns c =
     let p = c .before in
     let a = p .before .args in
     let f = p .before .fits in
-    sym (every-end (inRange (a .lo) (a .hi)) (a .l .now) (p .loop .i) (omega arith)) ∙ (rw (toZ-ofZ (f .lo), toZ-ofZ (f .hi)) at (p .loop .inv .1))
+    sym (every-end (inRange (a .lo) (a .hi)) (p .loop .ok) (a .l .now) (p .loop .i) (omega arith))
+    ∙ (rw (toZ-ofZ (f .lo), toZ-ofZ (f .hi)) at (p .loop .inv .1))
 
 pub list-ok-spec : {M : Type 1} → statement M
 list-ok-spec =
-    tie.close
-    (tie.spec
-    Inv-loop
-    μ-loop
-    loop-holds
-    mul-v
-    shared-slice-copy-out-v
-    in-range-requires
-    returns
-    add-i
-    loop-less
-    loop-again
-    returns-2)
+    tie.close (tie.spec Inv-loop μ-loop loop-holds mul-v shared-slice-copy-out-v in-range-requires add-i loop-less loop-again returns)
