@@ -428,21 +428,3 @@ pub fn entry_in(t: &[u8], start: usize, i: usize) -> u32
 {
     wide(t[start + i])
 }
-
-// The length of the row that starts at a place.
-pub fn length_of(start: usize) -> usize
-    requires { ⌜ start < 392 ⌝ }
-    ensures { λ r. ⌜ (r ≡ rowLength start) × (r ≤ 255) ⌝ }
-{
-    let t = table();
-    length_in(&t, start)
-}
-
-// Entry i of the row that starts at a place.
-pub fn entry_of(start: usize, i: usize) -> u32
-    requires { ⌜ start + i < 392 ⌝ }
-    ensures { λ r. ⌜ (r ≡ rowEntry start i) × (r ≤ 255) ⌝ }
-{
-    let t = table();
-    entry_in(&t, start, i)
-}

@@ -2,7 +2,6 @@
 // proved once, in proofs/. A const is written out anew at each mention, so tables hold bytes where they can, and a caller that reads one of
 // the long ones many times takes it once, by its module's `table`, and lends it to the functions named `.._in`.
 pub mod cache_bits;
-pub mod cache_index;
 pub mod caps;
 pub mod edges;
 pub mod energy_model;
