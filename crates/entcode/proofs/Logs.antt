@@ -10,7 +10,7 @@ use lib.Dec.{eqb, ltb}
 use lib.ListN.{getD}
 use lib.Count.{leadingZeros, leading-le, leading-top}
 use lib.Pow.{pow-mono, pow-pos, pow-add}
-use borrow.Author.Tests.{eqb-true}
+use borrow.Author.Tests.{eqb-true, lt-ltb, le-ltb}
 use Rattle.laws.proofs.Tables.{run, run-at}
 use Rattle.laws.proofs.Tests.{by-le}
 use Rattle.entcode.specs.Range.{ilog}
@@ -79,3 +79,11 @@ whole = refl
 pub table-right : (r : ℕ) → 32768 ≤ r → r < 65536 → byTable r ≡ eighths r
 unfolding right
 table-right r h l = eqb-true (byTable r) (eighths r) (run-at right 32768 32768 whole r h (omega arith))
+
+-- above its correction a number has one eighth more
+pub eighth-above : (r : ℕ) → 32768 ≤ r → r < 65536 → getD corrections (r / 4096 - 8) 0 < r → r / 4096 - 8 + 1 ≡ eighths r
+eighth-above r h l p = simp (lt-ltb _ _ p) at (table-right r h l)
+
+-- and up to it none
+pub eighth-upto : (r : ℕ) → 32768 ≤ r → r < 65536 → r ≤ getD corrections (r / 4096 - 8) 0 → r / 4096 - 8 ≡ eighths r
+eighth-upto r h l p = simp (le-ltb _ _ p) at (table-right r h l)

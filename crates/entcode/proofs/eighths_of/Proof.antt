@@ -1,7 +1,6 @@
 use borrow.Author.Needs.{needs}
 use native.Mathlib.Omega.{arith}
-use borrow.Author.Tests.{lt-ltb, le-ltb}
-use Rattle.entcode.proofs.Logs.{corrections, table-right}
+use Rattle.entcode.proofs.Logs.{corrections, eighth-above, eighth-upto}
 use Rattle.entcode.proofs.eighths_of.Statement.{statement}
 use Rattle.entcode.proofs.eighths_of.Tie as tie
 
@@ -22,15 +21,11 @@ add-result c = search needs
 
 returns : tie.Need-returns
 unfolding corrections
-returns c =
-    let r = c .before .args .r in
-    (simp (lt-ltb _ _ (c .if1 .taken)) at (table-right r (omega arith) (omega arith)), omega arith)
+returns c = (eighth-above (c .before .args .r) (omega arith) (omega arith) (c .if1 .taken), omega arith)
 
 returns-2 : tie.Need-returns-2
 unfolding corrections
-returns-2 c =
-    let r = c .before .args .r in
-    (simp (le-ltb _ _ (c .if1 .left)) at (table-right r (omega arith) (omega arith)), omega arith)
+returns-2 c = (eighth-upto (c .before .args .r) (omega arith) (omega arith) (c .if1 .left), omega arith)
 
 pub eighths-of-spec : {M : Type 1} → statement M
 eighths-of-spec = tie.close (tie.spec sub-b cast-i mul-if1 array-read-if1 add-result returns returns-2)

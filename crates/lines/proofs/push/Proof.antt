@@ -15,10 +15,10 @@ same-length : tie.Need-same-length
 same-length c = search needs
 
 returns : tie.Need-returns
-returns c = let a = c .before .args in (push-room (a .buf .now) (a .n) (a .b) (omega arith) (c .if1 .taken), omega arith)
+returns c = let a = c .before .args in (push-room (a .buf .now) (a .n) (a .b) (omega arith) (omega arith), omega arith)
 
 returns-2 : tie.Need-returns-2
-returns-2 c = let a = c .before .args in (push-full (a .buf .now) (a .n) (a .b) (omega arith) (c .if1 .left), omega arith)
+returns-2 c = let a = c .before .args in (push-full (a .buf .now) (a .n) (a .b) (omega arith) (omega arith), omega arith)
 
 pub push-spec : {M : Type 1} → statement M
 push-spec = tie.close (tie.spec slice-write-buf add-result same-length returns returns-2)

@@ -1,4 +1,6 @@
 -- `rate_skip::figures::left_of`: what comes back was part of the total. Assumes nothing.
+use mathlib.Core.Bool.{cond}
+use mathlib.Core.Path.{_≡_}
 use native.Mathlib.Omega.{arith}
 use Rattle.rate_def.specs.Alloc.{dualAsked, leftOf}
 use Rattle.rate_def.proofs.Within.{reserved}
@@ -27,7 +29,8 @@ returns : tie.Need-returns
 unfolding leftOf dualAsked
 returns c =
     let s = c .before .before .before .before in
-    rw (c .before .back-of .ensures .0, c .back-of2 .ensures .0, s .pre .1 .skip-is, s .pre .1 .dual-is)
+    let skip : c .before .back-of .result ≡ cond (s .args .stopped) 0 (s .args .k .skip) = c .before .back-of .ensures .0 in
+    rw (skip, c .back-of2 .ensures .0, s .pre .1 .skip-is, s .pre .1 .dual-is)
 
 pub left-of-spec : {M : Type 1} → statement M
 left-of-spec =

@@ -1,4 +1,8 @@
 -- `saved::gate::refusal_save`: the tests, in the order of the refusals. Assumes nothing.
+use mathlib.Core.Bool.{true}
+use mathlib.Core.Path.{_≡_}
+use lib.Dec.{leb}
+use Rattle.entcode.specs.Refusal.{refusal}
 use Rattle.saved.specs.Lines.{refusalSave}
 use borrow.Author.Needs.{needs}
 use Rattle.saved.proofs.gate.refusal_save.Statement.{statement}
@@ -15,7 +19,11 @@ refusal-of-requires c κs = search needs
 
 returns : tie.Need-returns
 unfolding refusalSave
-returns c = rw (c .before .before .all-finite .ensures) at (c .refusal-of .ensures)
+returns c =
+    let a = c .before .before .before .before .before .args in
+    let r : c .refusal-of .result ≡ refusal (leb 390 (a .room)) (leb (a .rec .next) 4294967295) (c .before .before .all-finite .result) 0 true true =
+    c .refusal-of .ensures in
+    rw (c .before .before .all-finite .ensures) at r
 
 pub refusal-save-spec : {M : Type 1} → statement M
 refusal-save-spec =

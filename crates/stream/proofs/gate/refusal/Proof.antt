@@ -1,5 +1,8 @@
 -- `stream::gate::refusal`: the tests, in the order of the refusals. Assumes nothing.
+use mathlib.Core.Bool.{true}
+use mathlib.Core.Path.{_≡_}
 use mir.Facts.{toZ-ofZ}
+use Rattle.entdec.specs.Rule.{readRefusal}
 use borrow.Author.Needs.{needs}
 use Rattle.stream.proofs.gate.refusal.Statement.{statement}
 use Rattle.stream.proofs.gate.refusal.Tie as tie
@@ -23,8 +26,11 @@ returns : tie.Need-returns
 returns c =
     let n = c .before .before .before .before in
     let f = n .before .before .fits in
+    let a = n .before .before .args in
     let e = rw (toZ-ofZ (f .c), toZ-ofZ (f .lm), toZ-ofZ (f .start), toZ-ofZ (f .end), toZ-ofZ (f .intra)) at (n .numbers-ok .ensures) in
-    rw (e, c .before .before .all-finite .ensures, c .before .order .ensures) at (c .refusal .ensures)
+    let r : c .refusal .result ≡ readRefusal (a .bytes) (a .d) true (n .numbers-ok .result) (c .before .before .all-finite .result) (c .before .order .result) =
+    c .refusal .ensures in
+    rw (e, c .before .before .all-finite .ensures, c .before .order .ensures) at r
 
 pub refusal-spec : {M : Type 1} → statement M
 refusal-spec =

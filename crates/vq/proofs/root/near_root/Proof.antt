@@ -1,4 +1,5 @@
 -- `vq::root::near_root`: on which side of the middle the root lies. Assumes nothing.
+use native.Mathlib.Omega.{arith}
 use Rattle.vq.proofs.Squares.{near-down, near-up}
 use borrow.Author.Needs.{needs}
 use Rattle.vq.proofs.root.near_root.Statement.{statement}
@@ -14,13 +15,13 @@ add-if1 : tie.Need-add-if1
 add-if1 c = search needs
 
 returns : tie.Need-returns
-returns c = near-down _ _ (c .before .floor-root .ensures) (c .if1 .taken)
+returns c = let f = c .before .floor-root .ensures in near-down _ _ f (omega (arith, f .least, c .if1 .taken))
 
 add-result : tie.Need-add-result
 add-result c = search needs
 
 returns-2 : tie.Need-returns-2
-returns-2 c = near-up _ _ (c .before .floor-root .ensures) (c .if1 .left)
+returns-2 c = let f = c .before .floor-root .ensures in near-up _ _ f (omega (arith, f .least, c .if1 .left))
 
 pub near-root-spec : {M : Type 1} → statement M
 near-root-spec =
