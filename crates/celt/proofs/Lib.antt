@@ -3,3 +3,4 @@ pub mod Bands
 pub mod Floats
 pub mod Written
 pub mod Framing
+pub mod Ended

@@ -9,3 +9,4 @@ pub mod Energies
 pub mod Shapes
 pub mod Record
 pub mod Requests
+pub mod Trips

@@ -1,5 +1,6 @@
-// What other languages link: every public call of the port on numbers and lent lists. A coder's state is a list of twelve numbers, a record one of 42
-// energies and its next frame number. The answer is 0, or the number of the refusal, which leaves every list as it was.
+// What other languages link: every public call of the port on numbers and lent lists; those of held and lent, which are the same calls in another form of
+// state, cross as the same calls on lists. A coder's state is a list of twelve numbers, a record one of 42 energies and its next frame number. The
+// answer is 0, or the number of the refusal, which leaves every list as it was.
 mod allocation;
 mod dec;
 mod enc;
@@ -10,3 +11,4 @@ mod pulses;
 mod record;
 mod requests;
 mod shapes;
+mod trips;

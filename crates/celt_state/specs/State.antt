@@ -13,7 +13,7 @@ use Rattle.laws.specs.Lists.{every}
 use Rattle.laws.specs.Signs.{clip, inRange}
 use Rattle.entdec.specs.declared.Reader.{Reader}
 use Rattle.entenc.specs.declared.Writer.{Writer}
-use Rattle.entenc.specs.Out.{sinkOf}
+use Rattle.entout.specs.Out.{sinkOf}
 
 -- ---- one number
 

@@ -17,8 +17,8 @@ ghost use Rattle.celt_state.specs.State.{
   writerOf,
 };
 use entdec::Reader;
-use entenc::Sink;
 use entenc::Writer;
+use entout::Sink;
 
 // Whether x fits a count.
 fn is_count(x: i64) -> bool

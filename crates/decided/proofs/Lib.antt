@@ -26,3 +26,4 @@ pub mod CeltPulses
 pub mod CeltRecord
 pub mod CeltRequests
 pub mod CeltShapes
+pub mod CeltTrips

@@ -1,44 +1,23 @@
 -- A symbol leaves the writer as it found it, but for the counts: so that workers can follow each other. Assumes nothing.
-use Prim.Native.Nat.{ℕ, zero, suc, _+_, _-_, _*_, _/_, _%_, _<_, _≤_}
+use Prim.Native.Nat.{ℕ, suc, _+_, _-_, _*_, _/_, _<_, _≤_}
 use mathlib.Core.Path.{_≡_, refl, ap, _∙_}
-use mathlib.Core.List.{List, [], _∷_}
 use native.Mathlib.Omega.{arith}
 use lib.Dec.{leb, eqb}
 use borrow.Author.Tests.{leb-true}
 use Rattle.laws.proofs.Tests.{split-on}
 use Rattle.entcode.specs.Range.{turns, off, wid}
 use Rattle.entcode.specs.Sym.{Shape, lowBits, partsOf, adjust}
-use Rattle.entcode.specs.Sym.Part.{cut, bits}
 use Rattle.entcode.specs.Sym.Shape.{bit, table, uint, raw, one}
 use Rattle.entcode.proofs.Turns.{turn-ind, turns-most}
 use Rattle.entcode.proofs.Cuts.{CutOk, cut-in}
 use Rattle.entcode.proofs.Parts.{BitsOk, PartsOk}
-use Rattle.entenc.specs.Out.{Out, isRoom, putFront, putEnd, emit, flushed}
-use Rattle.entenc.specs.Write.{Wr, outOf, settled, shiftW, shiftsW, narrowed, cutW, flushW, toppedW, bitsW}
+use Rattle.entout.specs.Carry.{settled}
+use Rattle.entout.proofs.Outs.{flushed-fit}
+use Rattle.entout.proofs.Keeping.{emit-keeps, flush-keeps}
+use Rattle.entenc.specs.Write.{Wr, outOf, shiftW, shiftsW, narrowed, cutW, flushW, toppedW, bitsW}
 use Rattle.entenc.specs.Symbols.{writeParts, writeSym}
 use Rattle.entenc.specs.Ready.{Turning, Sound, Ready}
-use Rattle.entenc.proofs.Outs.{flushed-fit}
 use Rattle.entenc.proofs.Shifts.{run-le, turning-less, turning-step, turning-narrow}
-
--- ---- the storage stays
-
-front-storage : (b : ℕ) (o : Out) → putFront b o .sink .storage ≡ o .sink .storage
-unfolding putFront
-front-storage b o = split-on (isRoom (o .sink)) (λ t. simp t) (λ t. simp t)
-
-end-storage : (b : ℕ) (o : Out) → putEnd b o .sink .storage ≡ o .sink .storage
-unfolding putEnd
-end-storage b o = split-on (isRoom (o .sink)) (λ t. simp t) (λ t. simp t)
-
-pub emit-storage : (bs : List ℕ) (o : Out) → emit bs o .sink .storage ≡ o .sink .storage
-unfolding emit
-emit-storage [] o = refl
-emit-storage (b ∷ bs) o = emit-storage bs (putFront b o) ∙ front-storage b o
-
-pub flushed-storage : (k window : ℕ) (o : Out) → flushed k window o .sink .storage ≡ o .sink .storage
-unfolding flushed
-flushed-storage zero window o = refl
-flushed-storage (suc k) window o = flushed-storage k (window / 256) (putEnd (window % 256) o) ∙ end-storage (window % 256) o
 
 -- ---- from w to w′ by at most `more` bits, and `run` bytes more that are held
 
@@ -107,7 +86,7 @@ unfolding shiftW
 turn-scaling k w h s =
     record {
       turning = turning-step k w (s .turning) h;
-      storage = omega (arith, emit-storage (settled (w .st .rem) (w .st .ext) (w .st .val / 8388608)) (outOf w), s .storage);
+      storage = omega (arith, emit-keeps (settled (w .st .rem) (w .st .ext) (w .st .val / 8388608)) (outOf w) .storage, s .storage);
       waiting = s .waiting;
     }
 
@@ -116,7 +95,7 @@ unfolding shiftW
 turn-one k w w′ p =
     record {
       sound = p .sound;
-      storage = p .storage ∙ emit-storage (settled (w .st .rem) (w .st .ext) (w .st .val / 8388608)) (outOf w);
+      storage = p .storage ∙ emit-keeps (settled (w .st .rem) (w .st .ext) (w .st .val / 8388608)) (outOf w) .storage;
       least = omega (arith, p .least);
       total = omega (arith, p .total);
       ext = omega (arith, p .ext, run-le (w .st .ext) (w .st .val / 8388608));
@@ -176,7 +155,7 @@ module _ (fl fh ft : ℕ) (w : Wr) (ok : CutOk fl fh ft) (r : Ready 1 w) where
 module _ (b v : ℕ) (w : Wr) (ok : BitsOk b v) (s : Sound w) where
   bits-at : (k : ℕ) → w .st .waiting - 8 * k + b ≤ 32 → Stepped 25 0 w (toppedW b v (flushW k w))
   bits-at k h =
-      let e = flushed-storage k (w .st .window) (outOf w) in
+      let e = flush-keeps k (w .st .window) (outOf w) .storage in
       record {
         sound =
             record {

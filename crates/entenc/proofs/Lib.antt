@@ -1,5 +1,4 @@
-pub mod Outs
-pub mod Flushes
+pub mod RawBits
 pub mod Shifts
 pub mod Forms
 pub mod Tails

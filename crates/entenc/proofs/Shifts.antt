@@ -6,10 +6,11 @@ use lib.Dec.{eqb}
 use Rattle.laws.proofs.Tests.{cond-le}
 use Rattle.entcode.specs.Range.{turns}
 use Rattle.entcode.proofs.Turns.{turns-done, turns-step}
-use Rattle.entenc.specs.Out.{Out, emit}
-use Rattle.entenc.specs.Write.{Wr, outOf, withRange, settled, heldBy, runBy, shiftW, shiftsW, narrowed}
+use Rattle.entout.specs.Out.{Out, emit}
+use Rattle.entout.specs.Carry.{settled, heldBy, runBy}
+use Rattle.entout.proofs.Outs.{emit-fit}
+use Rattle.entenc.specs.Write.{Wr, outOf, withRange, shiftW, shiftsW, narrowed}
 use Rattle.entenc.specs.Ready.{Turning, Ready}
-use Rattle.entenc.proofs.Outs.{emit-fit}
 
 -- a turn, from what goes out, what is held and what waits
 pub shift-is : (w : Wr) (o : Out) (rem ext : ℕ)

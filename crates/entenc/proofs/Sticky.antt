@@ -1,55 +1,18 @@
 -- What every step keeps, whatever the state: the error mark once it is set, and the lent length. Assumes nothing.
-use Prim.Native.Nat.{ℕ, zero, suc, _+_, _-_, _/_, _%_, _^_}
-use mathlib.Core.Path.{_≡_, refl, _∙_}
+use Prim.Native.Nat.{ℕ, zero, suc, _+_, _-_, _/_, _^_}
+use mathlib.Core.Path.{_≡_}
 use mathlib.Core.Bool.{true, cond}
 use mathlib.Core.List.{List, [], _∷_}
-use lib.ListN.{length, set, length-set}
-use lib.Dec.{leb, eqb}
-use Rattle.laws.proofs.Tests.{split-on}
+use lib.ListN.{length}
+use lib.Dec.{leb}
 use Rattle.entcode.specs.Range.{turns, off, wid}
 use Rattle.entcode.specs.Sym.{Part, Shape, partsOf, adjust}
 use Rattle.entcode.specs.Sym.Part.{cut, bits}
-use Rattle.entenc.specs.Out.{Out, isRoom, putFront, putEnd, emit, flushed}
-use Rattle.entenc.specs.Write.{Wr, outOf, settled, shiftW, shiftsW, narrowed, cutW, bitsW}
-use Rattle.entenc.specs.Close.{tailBits, tailEnd, turnsOf, ending, endW, restOut, zeroed, cleared, busts, finished, closeOut, closeW}
+use Rattle.entout.specs.Carry.{settled}
+use Rattle.entout.proofs.Keeping.{Keeps, keeps-same, keeps-then, emit-keeps, flush-keeps, finish-keeps}
+use Rattle.entenc.specs.Write.{Wr, outOf, shiftW, shiftsW, narrowed, cutW, bitsW}
+use Rattle.entenc.specs.Close.{tailBits, tailEnd, turnsOf, ending, endW, restOut, closeOut, closeW}
 use Rattle.entenc.specs.Symbols.{writePart, writeParts, writeSym}
-
--- from o to o′: a set mark stays set, and there are as many bytes
-pub record Keeps (o o′ : Out) : Type 0 where
-  pub mark : o .sink .error ≡ true → o′ .sink .error ≡ true
-  pub long : length (o′ .bytes) ≡ length (o .bytes)
-
-keeps-same : (o : Out) → Keeps o o
-keeps-same o = record { mark = λ e. e; long = refl }
-
-keeps-then : {a b c : Out} → Keeps a b → Keeps b c → Keeps a c
-keeps-then p q = record { mark = λ e. q .mark (p .mark e); long = q .long ∙ p .long }
-
--- ---- bytes
-
-front-keeps : (b : ℕ) (o : Out) → Keeps o (putFront b o)
-unfolding putFront
-front-keeps b o =
-    split-on (isRoom (o .sink))
-    (λ t. simp t (record { mark = λ e. e; long = length-set (o .bytes) (o .sink .offs) b }))
-    (λ t. simp t (record { mark = λ e. refl; long = refl }))
-
-end-keeps : (b : ℕ) (o : Out) → Keeps o (putEnd b o)
-unfolding putEnd
-end-keeps b o =
-    split-on (isRoom (o .sink))
-    (λ t. simp t (record { mark = λ e. e; long = length-set (o .bytes) (o .sink .storage - (o .sink .ends + 1)) b }))
-    (λ t. simp t (record { mark = λ e. refl; long = refl }))
-
-emit-keeps : (bs : List ℕ) (o : Out) → Keeps o (emit bs o)
-unfolding emit
-emit-keeps [] o = keeps-same o
-emit-keeps (b ∷ bs) o = keeps-then (front-keeps b o) (emit-keeps bs (putFront b o))
-
-flush-keeps : (k window : ℕ) (o : Out) → Keeps o (flushed k window o)
-unfolding flushed
-flush-keeps zero window o = keeps-same o
-flush-keeps (suc k) window o = keeps-then (end-keeps (window % 256) o) (flush-keeps k (window / 256) (putEnd (window % 256) o))
 
 -- ---- a symbol
 
@@ -77,31 +40,6 @@ pub sym-keeps : (h : Shape) (v : ℕ) (w : Wr) → Keeps (outOf w) (outOf (write
 sym-keeps h v w = parts-keep (partsOf h (adjust h v)) w
 
 -- ---- a close
-
-zeroed-long : (n a : ℕ) (l : List ℕ) → length (zeroed n a l) ≡ length l
-unfolding zeroed
-zeroed-long zero a l = refl
-zeroed-long (suc n) a l = zeroed-long n (a + 1) (set l a 0) ∙ length-set l a 0
-
-module _ (window used spare : ℕ) (o : Out) where
-  cleared-long : length (cleared o) ≡ length (o .bytes)
-  cleared-long = zeroed-long (o .sink .storage - o .sink .ends - o .sink .offs) (o .sink .offs) (o .bytes)
-
-  finish-keeps : Keeps o (finished window used spare o)
-  unfolding finished
-  finish-keeps =
-      split-on (o .sink .error)
-      (λ t. simp t (keeps-same o))
-      (λ t.
-      split-on (eqb used 0)
-      (λ a. simp (t, a) (record { mark = λ e. e; long = cleared-long }))
-      (λ a.
-      split-on (leb (o .sink .storage) (o .sink .ends))
-      (λ b. simp (t, a, b) (record { mark = λ e. refl; long = cleared-long }))
-      (λ b.
-      split-on (busts (o .sink) used spare)
-      (λ c. simp (t, a, b, c) (record { mark = λ e. refl; long = length-set (cleared o) _ _ ∙ cleared-long }))
-      (λ c. simp (t, a, b, c) (record { mark = λ e. e; long = length-set (cleared o) _ _ ∙ cleared-long })))))
 
 close-out : (w : Wr) → Keeps (outOf w) (closeOut w)
 unfolding closeOut endW

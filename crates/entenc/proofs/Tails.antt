@@ -1,22 +1,22 @@
--- Closing: the two roundings, the gap one byte at a time, the cases of the last byte, and all of it in a row. Assumes nothing.
+-- Closing: the two roundings, the bytes of the last number, and all of it in a row. Assumes nothing.
 use Prim.Native.Nat.{ℕ, zero, suc, _+_, _-_, _*_, _/_, _%_, _^_, _<_, _≤_}
 use mathlib.Core.Path.{_≡_, refl, ap, _∙_}
-use mathlib.Core.Bool.{true, false}
-use mathlib.Core.List.{List}
-use native.Mathlib.Nat.{not-suc-le-zero, div-mul-le-self, lt-irrefl, lt-of-lt-of-le, le-trans, le-of-lt}
-use native.Mathlib.Numerals.{sub-one}
+use mathlib.Core.Bool.{true}
+use native.Mathlib.Nat.{div-mul-le-self, lt-irrefl, lt-of-lt-of-le, le-trans, le-of-lt}
 use native.Mathlib.Omega.{arith}
-use lib.ListN.{set}
 use lib.Dec.{ltb}
 use lib.Count.{leadingZeros, leading-top}
 use lib.Pow.{pow-mono, pow-pos}
-use borrow.Author.Tests.{lt-ltb, le-ltb, le-leb, lt-leb, eq-eqb, ne-eqb}
+use borrow.Author.Tests.{lt-ltb, le-ltb}
 use Rattle.laws.proofs.Tests.{by-le, cond-by}
-use Rattle.entenc.specs.Out.{Out, out, marked, emit, flushed, leftOf}
-use Rattle.entenc.specs.Write.{Wr, wr, outOf, withRange, settled, shiftW, shiftsW}
-use Rattle.entenc.specs.Close.{rounded, tailBits, tailEnd, turnsOf, ending, endW, restRem, zeroed, cleared, joined, busts, finished, closeOut, closeW}
-use Rattle.entenc.specs.Ready.{Fit, Turning, Ready}
-use Rattle.entenc.proofs.Outs.{emit-fit}
+use Rattle.entout.specs.Out.{Out, emit, flushed, leftOf}
+use Rattle.entout.specs.Carry.{settled}
+use Rattle.entout.specs.Gap.{finished}
+use Rattle.entout.specs.Fit.{Fit}
+use Rattle.entout.proofs.Outs.{emit-fit}
+use Rattle.entenc.specs.Write.{Wr, wr, outOf, withRange, shiftW, shiftsW}
+use Rattle.entenc.specs.Close.{rounded, tailBits, tailEnd, turnsOf, ending, endW, restRem, closeOut, closeW}
+use Rattle.entenc.specs.Ready.{Turning, Ready}
 use Rattle.entenc.proofs.Shifts.{held-le, turning-step}
 
 -- ---- the last number
@@ -146,52 +146,6 @@ shifts-any : (k r s : ℕ) (w : Wr) → ranged 0 (shiftsW k (ranged r w)) ≡ ra
 unfolding shiftsW shiftW
 shifts-any zero r s w = refl
 shifts-any (suc k) r s w = shifts-any k (r * 256) (s * 256) (shiftW w)
-
--- ---- the gap, one byte at a time
-
-pub zeroed-step : (n a : ℕ) (l : List ℕ) → 0 < n → zeroed n a l ≡ zeroed (n - 1) (a + 1) (set l a 0)
-unfolding zeroed
-zeroed-step zero a l h = absurd (not-suc-le-zero h)
-zeroed-step (suc n) a l h = rw sub-one
-
-pub zeroed-done : (n a : ℕ) (l : List ℕ) → n ≤ 0 → l ≡ zeroed n a l
-unfolding zeroed
-zeroed-done zero a l h = refl
-zeroed-done (suc n) a l h = absurd (not-suc-le-zero h)
-
--- ---- the last byte, by its cases
-
-module _ (window used spare : ℕ) (o : Out) where
-  pub fin-error : o .sink .error ≡ true → o ≡ finished window used spare o
-  unfolding finished
-  fin-error e = simp e
-
-  module _ (l : List ℕ) (e : o .sink .error ≡ false) where
-    pub fin-none : used ≡ 0 → l ≡ cleared o → out (o .sink) l ≡ finished window used spare o
-    unfolding finished
-    fin-none u z = simp (e, eq-eqb _ _ u) (ap (out (o .sink)) z)
-
-    pub fin-full : (used ≡ 0 → ⊥) → o .sink .storage ≤ o .sink .ends → l ≡ cleared o → out (marked (o .sink)) l ≡ finished window used spare o
-    unfolding finished
-    fin-full u h z = simp (e, ne-eqb _ _ u, le-leb _ _ h) (ap (out (marked (o .sink))) z)
-
-    pub fin-bust : {l1 : List ℕ} {u : ℕ} → (used ≡ 0 → ⊥) → o .sink .ends < o .sink .storage → busts (o .sink) used spare ≡ true
-        → l1 ≡ cleared o → u ≡ 2 ^ spare
-        → l ≡ joined (o .sink .storage - o .sink .ends - 1) l1 (window % u % 256)
-        → out (marked (o .sink)) l ≡ finished window used spare o
-    unfolding finished
-    fin-bust {l1} {u} n h b z y x =
-        let e2 : l ≡ joined (o .sink .storage - o .sink .ends - 1) (cleared o) (window % 2 ^ spare % 256) = x ∙ rw (z, y) in
-        simp (e, ne-eqb _ _ n, lt-leb _ _ h, b) (ap (out (marked (o .sink))) e2)
-
-    pub fin-join : {l1 : List ℕ} → (used ≡ 0 → ⊥) → o .sink .ends < o .sink .storage → busts (o .sink) used spare ≡ false
-        → l1 ≡ cleared o
-        → l ≡ joined (o .sink .storage - o .sink .ends - 1) l1 (window % 256)
-        → out (o .sink) l ≡ finished window used spare o
-    unfolding finished
-    fin-join {l1} n h b z x =
-        let e2 : l ≡ joined (o .sink .storage - o .sink .ends - 1) (cleared o) (window % 256) = x ∙ rw z in
-        simp (e, ne-eqb _ _ n, lt-leb _ _ h, b) (ap (out (o .sink)) e2)
 
 -- ---- all of it
 

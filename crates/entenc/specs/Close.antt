@@ -1,14 +1,12 @@
 -- Closing a writer: the last bytes, the gap cleared, the last raw bits. RFC 6716, section 5.1.5.
-use Prim.Native.Nat.{ℕ, suc, zero, _+_, _-_, _*_, _/_, _%_, _^_}
-use mathlib.Core.Bool.{Bool, true, cond, _&&_}
-use mathlib.Core.List.{List}
-use lib.ListN.{set, getD}
-use lib.Dec.{ltb, leb, eqb}
-use lib.Bits.{bitOr}
+use Prim.Native.Nat.{ℕ, _+_, _-_, _*_, _/_, _%_, _^_}
+use mathlib.Core.Bool.{true, cond, _&&_}
+use lib.Dec.{ltb, leb}
 use lib.Count.{leadingZeros}
-use Rattle.entenc.specs.declared.Sink.{Sink}
-use Rattle.entenc.specs.Out.{Out, out, emit, marked, flushed, leftOf}
-use Rattle.entenc.specs.Write.{Wr, wr, outOf, withRange, shiftsW, settled}
+use Rattle.entout.specs.Out.{Out, emit, flushed, leftOf}
+use Rattle.entout.specs.Carry.{settled}
+use Rattle.entout.specs.Gap.{finished}
+use Rattle.entenc.specs.Write.{Wr, wr, outOf, withRange, shiftsW}
 
 -- ---- the shortest number of the range that all that may follow leaves in the range
 
@@ -48,35 +46,6 @@ restOut w = emit (settled (w .st .rem) (w .st .ext) 0) (outOf w)
 -- what is held then: nothing came, or a zero
 abbrev pub restRem : ℕ → ℕ → ℕ
 restRem rem ext = cond (leb 256 rem && leb ext 0) rem 0
-
--- ---- the gap and the last raw bits
-
--- n zeros from a on
-unfoldable pub zeroed : ℕ → ℕ → List ℕ → List ℕ
-zeroed zero a l = l
-zeroed (suc n) a l = zeroed n (a + 1) (set l a 0)
-
--- the gap between the two places cleared
-abbrev pub cleared : Out → List ℕ
-cleared o = zeroed (o .sink .storage - o .sink .ends - o .sink .offs) (o .sink .offs) (o .bytes)
-
--- b's bits set in the byte at a place
-abbrev pub joined : ℕ → List ℕ → ℕ → List ℕ
-joined at l b = set l at (bitOr (getD l at 0) b)
-
--- the range coder's bytes leave the raw bits no byte of their own, and not enough spare bits
-abbrev pub busts : Sink → ℕ → ℕ → Bool
-busts s used spare = leb (s .storage) (s .offs + s .ends) && ltb spare used
-
--- the last raw bits, fewer than 8, go into the last free byte, of which spare bits are free
-unfoldable pub finished : ℕ → ℕ → ℕ → Out → Out
-finished window used spare o =
-    cond (o .sink .error) o
-    (cond (eqb used 0) (out (o .sink) (cleared o))
-    (cond (leb (o .sink .storage) (o .sink .ends)) (out (marked (o .sink)) (cleared o))
-    (cond (busts (o .sink) used spare)
-    (out (marked (o .sink)) (joined (o .sink .storage - o .sink .ends - 1) (cleared o) (window % 2 ^ spare % 256)))
-    (out (o .sink) (joined (o .sink .storage - o .sink .ends - 1) (cleared o) (window % 256))))))
 
 -- ---- close, whole
 

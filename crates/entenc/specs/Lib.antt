@@ -1,4 +1,3 @@
-pub mod Out
 pub mod Write
 pub mod Close
 pub mod Symbols

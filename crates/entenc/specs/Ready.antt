@@ -1,14 +1,7 @@
 -- What the workers need of a writer and its bytes. An accepted state has it, and each symbol leaves it for the next.
 use Prim.Native.Nat.{ℕ, _+_, _*_, _<_, _≤_}
-use mathlib.Core.Path.{_≡_}
-use lib.ListN.{length}
-use Rattle.entenc.specs.Out.{Out}
+use Rattle.entout.specs.Fit.{Fit}
 use Rattle.entenc.specs.Write.{Wr, outOf}
-
--- the storage is the lent length, and the two places lie within it
-pub record Fit (o : Out) : Type 0 where
-  pub len : o .sink .storage ≡ length (o .bytes)
-  pub room : o .sink .offs + o .sink .ends ≤ o .sink .storage
 
 -- k turns of renormalization lie ahead at most, of a range that may be small
 pub record Turning (k : ℕ) (w : Wr) : Type 0 where

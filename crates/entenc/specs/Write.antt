@@ -1,13 +1,13 @@
 -- The range encoder of RFC 6716, section 5.1, as functions of a writer's state and the lent bytes together. Exact for every accepted state.
 use Prim.Native.Nat.{ℕ, suc, zero, _+_, _-_, _*_, _/_, _%_, _^_}
 use mathlib.Core.Bool.{false, cond}
-use mathlib.Core.List.{List, [], _∷_, _++_}
-use lib.ListN.{replicate}
-use lib.Dec.{ltb, leb, eqb}
+use mathlib.Core.List.{List}
+use lib.Dec.{leb}
 use lib.Bits.{bitOr}
 use Rattle.entcode.specs.Range.{turns, off, wid}
+use Rattle.entout.specs.Out.{Out, out, sinkOf, emit, flushed, leftOf}
+use Rattle.entout.specs.Carry.{settled, heldBy, runBy}
 use Rattle.entenc.specs.declared.Writer.{Writer}
-use Rattle.entenc.specs.Out.{Out, out, sinkOf, emit, flushed, leftOf}
 
 -- a writer and its bytes
 pub record Wr : Type 0 where
@@ -54,24 +54,6 @@ withRaw w o window waiting total =
       closed = w .st .closed;
     })
     (o .bytes)
-
--- ---- section 5.1.1.2: carry propagation. The held byte rem (256: none) and a run of ext bytes 255 wait; c comes next, 256 in it is a carry
-
--- the held byte with the carry k
-abbrev pub lead : ℕ → ℕ → List ℕ
-lead rem k = cond (ltb rem 256) (((rem + k) % 256) ∷ []) []
-
--- the bytes that settle: none where c is 255, which a later carry may still pass
-abbrev pub settled : ℕ → ℕ → ℕ → List ℕ
-settled rem ext c = cond (eqb c 255) [] (lead rem (c / 256) ++ replicate ext ((255 + c / 256) % 256))
-
--- the byte held after c
-abbrev pub heldBy : ℕ → ℕ → ℕ
-heldBy rem c = cond (eqb c 255) rem (c % 256)
-
--- the run that waits after c
-abbrev pub runBy : ℕ → ℕ → ℕ
-runBy ext c = cond (eqb c 255) (ext + 1) 0
 
 -- ---- section 5.1.1.1: renormalization
 

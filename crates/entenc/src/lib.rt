@@ -8,20 +8,12 @@ ghost use Rattle.entenc.specs.Write.{wr};
 ghost use Rattle.entenc.specs.Rule.{writerOk};
 ghost use Rattle.entenc.specs.Answer.{after, startOf, writing, closing};
 use entcode::Told;
+use entout::Sink;
 
-pub mod front;
 pub mod gate;
 pub mod raw;
 pub mod tail;
 pub mod work;
-
-// Where bytes go: the lent length, the next place at the front, how many bytes lie at the end, the error mark.
-pub struct Sink {
-    pub storage: u32,
-    pub offs: u32,
-    pub ends: u32,
-    pub error: bool,
-}
 
 // A writer: the sink, the held byte (256: none) and its run of 255s, the low end and the size of the range, the bit count, the raw bits
 // that wait and how many they are, and whether it is closed.

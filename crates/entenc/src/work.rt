@@ -9,11 +9,11 @@ ghost use Rattle.entcode.specs.Sym.Shape.{bit, table, uint};
 ghost use Rattle.entenc.specs.Write.{wr, shiftW, shiftsW, narrowed, cutW};
 ghost use Rattle.entenc.specs.Symbols.{writeSym};
 ghost use Rattle.entenc.specs.Ready.{Turning, Ready};
-use super::Sink;
 use super::Writer;
-use super::front::carry;
-use super::front::held_by;
-use super::front::run_by;
+use entout::Sink;
+use entout::front::carry;
+use entout::front::held_by;
+use entout::front::run_by;
 use laws::pow2;
 use laws::wide;
 

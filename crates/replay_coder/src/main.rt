@@ -1,103 +1,226 @@
-// Replays requests of the range coder, one a line, and answers each with a line; tools/compare makes them and says their form.
-mod calls;
+// Replays requests of the range coder, of Laplace values and of pulse words, one a line, and answers each with a line; tools/compare makes them and
+// says their form. The numbers of a request stand in a list l.
+mod begin;
+mod symbols;
+mod values;
+mod vectors;
 
+use entdec::Reader;
+use entenc::Writer;
 use replay_io::input;
 use replay_io::list;
-use replay_state::Now;
+use replay_io::list::word;
+use replay_state::say;
 
-// A request over the bytes that are lent and the table's symbols.
-fn act(letter: u8, l: &[i32], s: &mut [u8], t: &[u8], out: &mut [u8], now: Now) -> Now {
-    match letter {
-        b'S' | b'O' | b'K' | b'k' | b'D' => replay_state::begin(letter, l, s, out, now),
-        _ => calls::call(letter, l, s, t, out, now),
+// Who works on the bytes.
+pub enum Coder {
+    Idle,
+    Writing(Writer),
+    Reading(Reader),
+}
+
+// Where the program stands: how many bytes are lent, the table's symbols and their ftb, the pair of Laplace values, and the coder.
+pub struct Now {
+    pub lent: usize,
+    pub symbols: usize,
+    pub ftb: u32,
+    pub fs: u32,
+    pub decay: u32,
+    pub coder: Coder,
+}
+
+// Before the first request.
+fn fresh() -> Now {
+    Now {
+        lent: 0,
+        symbols: 0,
+        ftb: 0,
+        fs: 0,
+        decay: 0,
+        coder: Coder::Idle,
     }
 }
 
-// The same, over as much of the bytes and of the table as the requests up to it say.
-fn lend(letter: u8, l: &[i32], bytes: &mut [u8], table: &[u8], out: &mut [u8], now: Now) -> Now {
-    let n = now.lent;
-    let k = now.first as usize;
-    if n <= bytes.len() {
-        if k <= table.len() {
-            return act(letter, l, &mut bytes[..n], &table[..k], out, now);
+impl Now {
+    // S lends so many bytes; after any other request they stay.
+    fn lending(mut self, letter: u8, l: &[i32], most: usize) -> Now {
+        if letter == b'S' {
+            self.lent = list::length_at(l, 0, most);
+        }
+        self
+    }
+
+    // T: another table. Its ftb stands before its entries.
+    fn tabled(mut self, count: usize, ftb: u32) -> Now {
+        if 0 < count {
+            self.symbols = count - 1;
+        }
+        self.ftb = ftb;
+        self
+    }
+
+    // P: another pair.
+    fn paired(mut self, fs: u32, decay: u32) -> Now {
+        self.fs = fs;
+        self.decay = decay;
+        self
+    }
+
+    // Another coder.
+    fn turned(self, coder: Coder) -> Now {
+        Now {
+            lent: self.lent,
+            symbols: self.symbols,
+            ftb: self.ftb,
+            fs: self.fs,
+            decay: self.decay,
+            coder,
         }
     }
-    now.malformed(out)
+}
+
+// A write or the close.
+fn write_on(
+    letter: u8,
+    l: &[i32],
+    s: &mut [u8],
+    t: &[u8],
+    places: &[i32],
+    now: Now,
+    w: Writer,
+) -> Coder {
+    match letter {
+        b'L' => values::put(list::at(l, 0), s, now.fs, now.decay, w),
+        b'W' => vectors::put(l, s, places, w),
+        _ => symbols::write(letter, l, s, t, now.ftb, w),
+    }
+}
+
+// A read.
+fn read_on(
+    letter: u8,
+    l: &[i32],
+    s: &[u8],
+    t: &[u8],
+    places: &mut [i32],
+    now: Now,
+    r: Reader,
+) -> Coder {
+    match letter {
+        b'l' => values::get(s, now.fs, now.decay, r),
+        b'w' => vectors::get(l, s, places, r),
+        _ => symbols::read(letter, l, s, t, now.ftb, r),
+    }
+}
+
+// A call of the writer or of the reader, whoever works.
+fn call(letter: u8, l: &[i32], s: &mut [u8], t: &[u8], places: &mut [i32], now: Now) -> Coder {
+    let coder = now.coder;
+    match coder {
+        Coder::Writing(w) => write_on(letter, l, s, t, places, now, w),
+        Coder::Reading(r) => read_on(letter, l, s, t, places, now, r),
+        Coder::Idle => {
+            say::malformed();
+            Coder::Idle
+        }
+    }
+}
+
+// A request over the bytes that are lent and the table's symbols.
+fn act(letter: u8, l: &[i32], s: &mut [u8], t: &[u8], places: &mut [i32], now: Now) -> Coder {
+    let coder = now.coder;
+    match letter {
+        b'S' | b'O' | b'K' | b'k' => begin::begin(letter, l, s, coder),
+        b'D' => begin::damage(l, s, coder),
+        _ => call(letter, l, s, t, places, now),
+    }
+}
+
+// The same, over as many bytes as the requests up to it say.
+fn lend(
+    letter: u8,
+    l: &[i32],
+    bytes: &mut [u8],
+    table: &[u8],
+    places: &mut [i32],
+    now: Now,
+) -> Now {
+    let n = now.lent;
+    if bytes.len() < n {
+        return now;
+    }
+    let t = input::first(table, now.symbols);
+    let coder = act(letter, l, &mut bytes[..n], t, places, now);
+    now.turned(coder)
 }
 
 // A request by its letter and its numbers, of which there are so many.
 fn ask(
     letter: u8,
     l: &[i32],
-    count: u32,
+    count: usize,
     bytes: &mut [u8],
     table: &mut [u8],
-    out: &mut [u8],
+    places: &mut [i32],
     now: Now,
 ) -> Now {
-    if letter == b'T' {
-        return calls::lay(l, count, table, out, now);
-    }
-    let on = now.lending(letter, l, bytes.len());
-    lend(letter, l, bytes, table, out, on)
-}
-
-// Answers a line.
-fn step(line: &[u8], bytes: &mut [u8], table: &mut [u8], out: &mut [u8], now: Now) -> Now {
-    let mut numbers = [0i32; 257];
-    let count = list::read(line, 1, &mut numbers);
-    if count <= 257 {
-        ask(
-            input::byte(line, 0),
-            &numbers,
-            count as u32,
-            bytes,
-            table,
-            out,
-            now,
-        )
-    } else {
-        now.malformed(out)
+    match letter {
+        b'T' => {
+            list::bytes_of(list::part(l, 1, 256), table);
+            now.tabled(count, word(l, 0))
+        }
+        b'P' => now.paired(word(l, 0), word(l, 1)),
+        b'Z' | b'A' => {
+            vectors::lay(letter, l, places);
+            now
+        }
+        _ => {
+            let on = now.lending(letter, l, bytes.len());
+            lend(letter, l, bytes, table, places, on)
+        }
     }
 }
 
-// Answers the line in the first bytes of its buffer.
-fn answer(
+// Answers the line in the first n bytes of its buffer.
+fn step(
     line: &[u8],
-    length: usize,
+    n: usize,
     bytes: &mut [u8],
     table: &mut [u8],
-    out: &mut [u8],
+    places: &mut [i32],
     now: Now,
 ) -> Now {
-    if line.len() < length {
+    let mut l = [0i32; 257];
+    let request = input::first(line, n);
+    let count = list::read(request, 1, &mut l);
+    if 257 < count {
+        say::malformed();
         return now;
     }
-    let done = step(&line[..length], bytes, table, out, now);
-    let left = replay_io::flush(out, done.written, 4096);
-    done.said(left)
+    ask(
+        input::byte(request, 0),
+        &l,
+        count,
+        bytes,
+        table,
+        places,
+        now,
+    )
 }
 
 // Answers each line of the input.
-fn run(
-    block: &mut [u8],
-    line: &mut [u8],
-    bytes: &mut [u8],
-    table: &mut [u8],
-    out: &mut [u8],
-) -> Now {
-    let mut now = replay_state::fresh();
-    let mut t = input::next(block, line, input::begin());
+fn run(block: &mut [u8], line: &mut [u8], bytes: &mut [u8], table: &mut [u8], places: &mut [i32]) {
+    let mut now = fresh();
+    let mut t = input::begin();
     let mut lines: u32 = 4294967295;
     while 0 < lines {
-        if !t.whole {
-            return now;
-        }
-        now = answer(line, t.length, bytes, table, out, now);
         t = input::next(block, line, t);
+        if !t.whole {
+            return;
+        }
+        now = step(line, t.length, bytes, table, places, now);
         lines -= 1;
     }
-    now
 }
 
 fn main() {
@@ -105,7 +228,6 @@ fn main() {
     let mut line = [0u8; 1200];
     let mut bytes = [0u8; 1300];
     let mut table = [0u8; 256];
-    let mut out = [0u8; 8192];
-    let end = run(&mut block, &mut line, &mut bytes, &mut table, &mut out);
-    replay_io::flush(&out, end.written, 0);
+    let mut places = [0i32; 176];
+    run(&mut block, &mut line, &mut bytes, &mut table, &mut places);
 }

@@ -26,7 +26,7 @@ fn bits_of(x: f32) -> u32 {
 }
 
 // The text with the eight hex figures of an f32's bits after it.
-pub fn push_float(out: &mut [u8], n: usize, x: f32) -> usize {
+fn push_float(out: &mut [u8], n: usize, x: f32) -> usize {
     let v = bits_of(x);
     let a = (v / 16777216) as u8;
     let b = (v / 65536 % 256) as u8;

@@ -26,6 +26,14 @@ pub fn byte(s: &[u8], at: usize) -> u8 {
     if at < s.len() { s[at] } else { b'\n' }
 }
 
+// The first n bytes of a buffer.
+pub fn first(s: &[u8], n: usize) -> &[u8] {
+    if n <= s.len() {
+        return &s[..n];
+    }
+    s
+}
+
 // The bytes of the block up to a line feed go after the first n bytes of the line, as far as there is room.
 fn take(block: &[u8], from: usize, count: usize, line: &mut [u8], n: usize) -> Line {
     let mut k = n;

@@ -1,5 +1,5 @@
-// Lines of numbers, read and written: what every program that replays recorded answers needs. A text stands in the first n bytes of a
-// lent buffer. Every function answers every input.
+// Lines of numbers, read and written: what every program that replays recorded answers needs. A text that is made stands in the first n bytes
+// of a lent buffer. Every function answers every input.
 ghost use mathlib.Core.Path.{_≡_};
 ghost use mathlib.Core.List.{[], _∷_};
 ghost use Prim.Native.Nat.{_%_, _≤_, _<_};
@@ -11,6 +11,7 @@ ghost use Rattle.replay_io.specs.Text.{joined, Numbered, hexOf};
 pub mod floats;
 pub mod input;
 pub mod list;
+pub mod say;
 
 // A number of a line: its value, and the place after its last figure.
 pub struct Number {
@@ -25,7 +26,7 @@ pub enum Field {
 }
 
 // The text with one byte more, as far as the buffer has room; its length.
-pub fn push(out: &mut [u8], n: usize, b: u8) -> usize
+fn push(out: &mut [u8], n: usize, b: u8) -> usize
     ensures { λ r. ⌜ take r (now (out .exit)) ≡ joined (length (now (out .entry))) (take n (now (out .entry))) (b ∷ []) ⌝ }
 {
     if n < out.len() {
@@ -36,7 +37,7 @@ pub fn push(out: &mut [u8], n: usize, b: u8) -> usize
 }
 
 // The text with all of s after it, as far as the buffer has room; its length.
-pub fn push_all(out: &mut [u8], n: usize, s: &[u8]) -> usize
+fn push_all(out: &mut [u8], n: usize, s: &[u8]) -> usize
     ensures { λ r. ⌜ take r (now (out .exit)) ≡ joined (length (now (out .entry))) (take n (now (out .entry))) (now (s .entry)) ⌝ }
 {
     let mut k = n;
@@ -49,7 +50,7 @@ pub fn push_all(out: &mut [u8], n: usize, s: &[u8]) -> usize
 }
 
 // The text with a blank and v in decimal after it.
-pub fn push_number(out: &mut [u8], n: usize, v: u32) -> usize
+fn push_number(out: &mut [u8], n: usize, v: u32) -> usize
     ensures { λ r. ⌜ Numbered (length (now (out .entry))) (take n (now (out .entry))) v (take r (now (out .exit))) ⌝ }
 {
     let k = push(out, n, b' ');
@@ -67,7 +68,7 @@ fn glyph(b: u8) -> u8
 }
 
 // The text with the bytes s in lowercase hex after it.
-pub fn push_hex(out: &mut [u8], n: usize, s: &[u8]) -> usize
+fn push_hex(out: &mut [u8], n: usize, s: &[u8]) -> usize
     ensures { λ r. ⌜ take r (now (out .exit)) ≡ joined (length (now (out .entry))) (take n (now (out .entry))) (hexOf (now (s .entry))) ⌝ }
 {
     let mut k = n;
@@ -156,19 +157,8 @@ fn figures_at(s: &[u8], from: usize) -> Field {
     }
 }
 
-// Writes the text out once it is longer than most; the length of what is left.
-pub fn flush(out: &[u8], n: usize, most: usize) -> usize {
-    if n <= most {
-        return n;
-    }
-    if n <= out.len() {
-        io::write_all(libc::STDOUT_FILENO, &out[..n]);
-    }
-    0
-}
-
 // Reads once from standard input; how many bytes came, 0 at the end.
-pub fn read_some(block: &mut [u8]) -> usize
+fn read_some(block: &mut [u8]) -> usize
     ensures { λ r. ⌜ Counts r (now (block .exit)) ⌝ }
 {
     let got = libc::read(libc::STDIN_FILENO, block);

@@ -115,6 +115,16 @@ pub fn length_at(list: &[i32], i: usize, most: usize) -> usize
     if n <= most { n } else { most }
 }
 
+// So many entries from a place on; none where they do not stand there.
+pub fn part(list: &[i32], from: usize, n: usize) -> &[i32] {
+    if from <= list.len() {
+        if n <= list.len() - from {
+            return &list[from..from + n];
+        }
+    }
+    &list[..0]
+}
+
 // The entries as bytes, each by its lowest eight bits.
 pub fn bytes_of(list: &[i32], s: &mut [u8]) {
     let mut i = 0;

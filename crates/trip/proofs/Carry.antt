@@ -8,7 +8,7 @@ use lib.ListN.{length, replicate, length-replicate}
 use lib.Dec.{ltb, eqb}
 use borrow.Author.Tests.{lt-ltb, ltb-true, ltb-false, ne-eqb, eqb-true, eqb-false}
 use Rattle.laws.proofs.Tests.{split-on, by-le, cond-le}
-use Rattle.entenc.specs.Write.{settled, heldBy, runBy}
+use Rattle.entout.specs.Carry.{settled, heldBy, runBy}
 use Rattle.trip.proofs.Front.{horner, ones, horner-ones, horner-carry}
 
 -- a is the number of the bytes that are out; the held byte 256 is none

@@ -8,8 +8,9 @@ use native.Mathlib.Omega.{arith}
 use lib.ListN.{length}
 use lib.Pow.{pow-pos}
 use Rattle.laws.specs.Lists.{Bytes}
-use Rattle.entenc.specs.Out.{Out, flushed, leftOf}
-use Rattle.entenc.specs.Write.{Wr, outOf, settled, shiftW, shiftsW}
+use Rattle.entout.specs.Out.{Out, flushed, leftOf}
+use Rattle.entout.specs.Carry.{settled}
+use Rattle.entenc.specs.Write.{Wr, outOf, shiftW, shiftsW}
 use Rattle.entenc.specs.Close.{tailBits, tailEnd, turnsOf, ending, endW, restOut, closeOut}
 use Rattle.trip.proofs.Front.{code, seen, seen-three, ones}
 use Rattle.trip.proofs.Back.{backFrom}

@@ -11,10 +11,11 @@ use Rattle.entcode.specs.Sym.Shape.{bit, table, uint, raw}
 use Rattle.entdec.specs.declared.Reader.{Reader}
 use Rattle.entdec.specs.Read.{pull, pulls, place, update, byteBack, fetch, fetches, readBits, freshReader}
 use Rattle.entdec.specs.Symbols.{readSym}
-use Rattle.entenc.specs.Out.{putFront, putEnd, emit, flushed, leftOf}
+use Rattle.entout.specs.Out.{putFront, putEnd, emit, flushed, leftOf}
 use Rattle.entenc.specs.Write.{Wr, wr, shiftW, shiftsW, cutW, bitsW, freshWriter}
 use Rattle.entenc.specs.Symbols.{writeParts}
-use Rattle.entenc.specs.Close.{rounded, tailBits, tailEnd, zeroed, finished, endW, closeOut, closeW}
+use Rattle.entout.specs.Gap.{zeroed, finished}
+use Rattle.entenc.specs.Close.{rounded, tailBits, tailEnd, endW, closeOut, closeW}
 use Rattle.trip.specs.Along.{writeSyms}
 
 -- tables of five, three and one symbols

@@ -8,7 +8,7 @@ use lib.ListN.{length, getD, set}
 use lib.Seq.{set-comm}
 use Rattle.laws.specs.Lists.{fill, Bytes}
 use Rattle.laws.proofs.Lists.{fill-length, fill-in, fill-below, fill-above, fill-keeps}
-use Rattle.entenc.specs.Close.{zeroed}
+use Rattle.entout.specs.Gap.{zeroed}
 
 -- a store before the filled places
 fill-set : (f : ℕ → ℕ) (n start i x : ℕ) (l : List ℕ) → i < start → fill f start n (set l i x) ≡ set (fill f start n l) i x

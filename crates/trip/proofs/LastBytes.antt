@@ -13,8 +13,8 @@ use lib.Bits.{bitOr, or-zero-l, or-shifted}
 use borrow.Author.Tests.{ltb-false, leb-true, leb-false, eqb-true}
 use Rattle.laws.proofs.Tests.{split-on}
 use Rattle.entdec.specs.Read.{byteBack}
-use Rattle.entenc.specs.Out.{Out, out, marked}
-use Rattle.entenc.specs.Close.{cleared, joined, busts, finished}
+use Rattle.entout.specs.Out.{Out, out, marked}
+use Rattle.entout.specs.Gap.{cleared, joined, busts, finished}
 use Rattle.trip.proofs.Front.{code, code-same, code-set, code-put}
 use Rattle.trip.proofs.Back.{backWith, backWith-same, backFrom, backFrom-split, backFrom-step, byteBack-at}
 use Rattle.trip.proofs.Gap.{zeroed-length, zeroed-below, zeroed-above, zeroed-in}

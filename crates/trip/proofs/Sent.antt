@@ -10,7 +10,7 @@ use lib.ListN.{length, set, length-set}
 use lib.Pow.{pow-add}
 use borrow.Author.Tests.{ltb-true}
 use Rattle.entdec.specs.Read.{byteBack}
-use Rattle.entenc.specs.Out.{Out, isRoom, stored, storedEnd, missed, putFront, putEnd, emit, flushed, leftOf}
+use Rattle.entout.specs.Out.{Out, isRoom, stored, storedEnd, missed, putFront, putEnd, emit, flushed, leftOf}
 use Rattle.trip.proofs.Front.{code, code-set, code-put, horner}
 use Rattle.trip.proofs.Back.{backWith, backWith-last, backWith-same, byteBack-other, byteBack-set}
 

@@ -13,11 +13,13 @@ use Rattle.laws.proofs.Lists.{set-keeps}
 use Rattle.entcode.specs.Range.{turns, wid}
 use Rattle.entcode.specs.Sym.{Part}
 use Rattle.entcode.specs.Sym.Part.{cut, bits}
-use Rattle.entenc.specs.declared.Sink.{Sink}
-use Rattle.entenc.specs.Out.{Out, out, sinkOf, marked, missed, isRoom, putFront, putEnd, emit, flushed}
-use Rattle.entenc.specs.Write.{Wr, outOf, settled, shiftW, shiftsW, cutW, bitsW}
+use Rattle.entout.specs.declared.Sink.{Sink}
+use Rattle.entout.specs.Out.{Out, out, sinkOf, marked, missed, isRoom, putFront, putEnd, emit, flushed}
+use Rattle.entout.specs.Carry.{settled}
+use Rattle.entenc.specs.Write.{Wr, outOf, shiftW, shiftsW, cutW, bitsW}
 use Rattle.entenc.specs.Symbols.{writePart, writeParts}
-use Rattle.entenc.specs.Close.{tailBits, tailEnd, turnsOf, cleared, joined, busts, finished, ending, endW, restOut, closeOut}
+use Rattle.entout.specs.Gap.{cleared, joined, busts, finished}
+use Rattle.entenc.specs.Close.{tailBits, tailEnd, turnsOf, ending, endW, restOut, closeOut}
 use Rattle.trip.proofs.Gap.{zeroed-length, zeroed-bytes}
 
 -- bytes, n of them, and n is the storage

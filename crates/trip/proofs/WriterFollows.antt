@@ -18,7 +18,8 @@ use Rattle.entcode.specs.Sym.Part.{cut, bits}
 use Rattle.entcode.proofs.Cuts.{CutOk, cut-in}
 use Rattle.entcode.proofs.Turns.{turn-ind}
 use Rattle.entenc.specs.declared.Writer.{Writer}
-use Rattle.entenc.specs.Write.{Wr, wr, outOf, settled, heldBy, runBy, shiftW, shiftsW, narrowed, cutW, flushW, toppedW, bitsW, freshWriter}
+use Rattle.entout.specs.Carry.{settled, heldBy, runBy}
+use Rattle.entenc.specs.Write.{Wr, wr, outOf, shiftW, shiftsW, narrowed, cutW, flushW, toppedW, bitsW, freshWriter}
 use Rattle.entenc.specs.Symbols.{writeParts}
 use Rattle.entcode.proofs.Parts.{BitsOk, PartsOk}
 use Rattle.trip.proofs.Front.{code, ones}

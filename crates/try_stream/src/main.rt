@@ -1,4 +1,4 @@
-// Frames on a stream record, saved and restored. Requests come on standard input, one a line, fields parted by tabs:
+// Frames on a stream record, saved and restored. tools/compare --record stream makes the requests and the answers; one a line, fields parted by tabs:
 //   E.. or Q..  a saved line is restored; answered by R and the code
 //   F           a frame: number, C, LM, start, end, intra, the reader's eleven numbers in the crate's order, the packet in hex. It is tried with
 //               the number after its own (a skip), with its own, and once more (a repeat); answered by F, the three codes and the reader after
@@ -36,31 +36,20 @@ fn whole(s: &[u8], n: usize) -> i32 {
     }
 }
 
-// The eleven numbers from field 7 on.
-fn eleven(s: &[u8]) -> [u32; 11] {
-    let mut v = [0u32; 11];
-    let mut k: usize = 0;
-    while k < 11 {
-        v[k] = count(s, k + 7);
-        k += 1;
-    }
-    v
-}
-
-// The reader of eleven numbers.
-fn reader(v: [u32; 11]) -> Reader {
+// The reader of the eleven numbers from field 7 on.
+fn reader(s: &[u8]) -> Reader {
     Reader {
-        storage: v[0],
-        ends: v[1],
-        window: v[2],
-        waiting: v[3],
-        total: v[4],
-        offs: v[5],
-        rng: v[6],
-        val: v[7],
-        ext: v[8],
-        rem: v[9],
-        error: 0 < v[10],
+        storage: count(s, 7),
+        ends: count(s, 8),
+        window: count(s, 9),
+        waiting: count(s, 10),
+        total: count(s, 11),
+        offs: count(s, 12),
+        rng: count(s, 13),
+        val: count(s, 14),
+        ext: count(s, 15),
+        rem: count(s, 16),
+        error: 0 < count(s, 17),
     }
 }
 
@@ -145,9 +134,9 @@ fn save(rec: Record) -> Record {
 }
 
 // Frame `number`, with the other numbers of a request.
-fn apply(s: &[u8], packet: &[u8], number: u64, rec: Record) -> Framed {
+fn apply(s: &[u8], d: Reader, packet: &[u8], number: u64, rec: Record) -> Framed {
     rec.frame(
-        reader(eleven(s)),
+        d,
         packet,
         number,
         whole(s, 2),
@@ -161,15 +150,14 @@ fn apply(s: &[u8], packet: &[u8], number: u64, rec: Record) -> Framed {
 // A skip, the frame, and its repeat.
 fn thrice(s: &[u8], packet: &[u8], rec: Record) -> Record {
     let number = count(s, 1) as u64;
-    let skip = apply(s, packet, number + 1, rec);
+    let d = reader(s);
+    let skip = apply(s, d, packet, number + 1, rec);
     let mid = skip.rec;
-    let own = apply(s, packet, number, mid);
+    let own = apply(s, d, packet, number, mid);
     let then = own.rec;
-    let again = apply(s, packet, number, then);
+    let again = apply(s, d, packet, number, then);
     io::write_all(STDOUT_FILENO, b"F");
-    say(skip.code);
-    say(own.code);
-    say(again.code);
+    say_all(&[skip.code, own.code, again.code]);
     let after = own.next;
     say_reader(after);
     io::write_all(STDOUT_FILENO, b"\n");

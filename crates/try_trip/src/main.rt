@@ -1,18 +1,21 @@
-// Runs round trips, one a line of the input, and answers each with a line. A line is a letter and numbers, each after a blank: the storage, the
-// byte that fills it, ten whole numbers (C, LM, start, end, trim, total, intensity, dual stereo, previous band count, bandwidth), 21 boosts and
-// 21 caps, the number of table entries and the entries, then five numbers for each symbol. Whole numbers are counted: 0, -1, 1, -2, 2, .. as
-// 0, 1, 2, 3, 4, ..
+// Runs round trips, one a line of the input, and answers each with a line; tools/compare --record trip makes the trips and the answers. A line is a
+// letter and numbers, each after a blank: the storage, the byte that fills it, ten whole numbers (C, LM, start, end, trim, total, intensity, dual
+// stereo, previous band count, bandwidth), 21 boosts and 21 caps, the number of table entries and the entries, then five numbers for each
+// symbol. Whole numbers are counted: 0, -1, 1, -2, 2, .. as 0, 1, 2, 3, 4, ..
 mod numbers;
 mod say;
 
-use numbers::at;
-use numbers::part;
 use numbers::signed;
 use rate::Numbers;
+use replay_io::input;
+use replay_io::list;
+use replay_io::list::part;
+use replay_io::list::word;
+use round_trip_run::Outcome;
 use round_trip_run::Wishes;
 
 // The allocation's numbers.
-fn asked(l: &[u32]) -> Numbers {
+fn asked(l: &[i32]) -> Numbers {
     Numbers {
         c: signed(l, 2),
         lm: signed(l, 3),
@@ -24,7 +27,7 @@ fn asked(l: &[u32]) -> Numbers {
 }
 
 // The encoder's wishes.
-fn wished(l: &[u32]) -> Wishes {
+fn wished(l: &[i32]) -> Wishes {
     Wishes {
         intensity: signed(l, 8),
         dual: signed(l, 9),
@@ -33,178 +36,68 @@ fn wished(l: &[u32]) -> Wishes {
     }
 }
 
-// The trip of a line's numbers, over these bytes and tables.
-fn trip(l: &[u32], bytes: &[u8], tables: &[u8], symbols: &[u32]) -> round_trip_run::Outcome {
+// The trip of a line's numbers, over these bytes, tables and symbols.
+fn trip(l: &[i32], bytes: &[u8], tables: &[u8], symbols: &[u32]) -> Outcome {
     let mut offsets = [0i32; 21];
     let mut caps = [0i32; 21];
-    numbers::copy_signed(part(l, 12), &mut offsets);
-    numbers::copy_signed(part(l, 33), &mut caps);
+    numbers::whole(numbers::after(l, 12), &mut offsets);
+    numbers::whole(numbers::after(l, 33), &mut caps);
     round_trip_run::round_trip(bytes, symbols, tables, asked(l), wished(l), &offsets, &caps)
 }
 
-// The same, its bytes and tables made; the length of the text with its answer.
-fn over(
-    l: &[u32],
-    entries: &[u32],
-    bytes: &mut [u8],
-    tables: &mut [u8],
-    out: &mut [u8],
-    n: usize,
-) -> usize {
-    numbers::fill(bytes, (at(l, 1) % 256) as u8);
-    numbers::copy_bytes(entries, tables);
-    let r = trip(l, bytes, tables, part(entries, tables.len()));
-    say::outcome(out, n, r)
-}
-
-// As many bytes and table entries as the line says.
-fn within(l: &[u32], bytes: &mut [u8], tables: &mut [u8], out: &mut [u8], n: usize) -> usize {
-    let storage = at(l, 0) as usize;
-    let k = at(l, 54) as usize;
-    if bytes.len() < storage {
-        return say::malformed(out, n);
-    }
-    if tables.len() < k {
-        return say::malformed(out, n);
-    }
-    over(
+// The same, over so many bytes, as many table entries as the line says, and the symbols after them.
+fn over(l: &[i32], storage: u32, entries: u32) -> Outcome {
+    let k = entries as usize;
+    let bytes = [(word(l, 1) % 256) as u8; 1300];
+    let mut tables = [0u8; 300];
+    let mut symbols = [0u32; 1024];
+    let rest = numbers::after(l, 55 + k);
+    list::bytes_of(numbers::after(l, 55), &mut tables);
+    numbers::words(rest, &mut symbols);
+    trip(
         l,
-        part(l, 55),
-        &mut bytes[..storage],
-        &mut tables[..k],
-        out,
-        n,
+        input::first(&bytes, storage as usize),
+        input::first(&tables, k),
+        numbers::first(&symbols, rest.len()),
     )
 }
 
-// A line's numbers, with room for bytes and tables.
-fn answer(l: &[u32], out: &mut [u8], n: usize) -> usize {
-    let mut bytes = [0u8; 1300];
-    let mut tables = [0u8; 300];
-    within(l, &mut bytes, &mut tables, out, n)
-}
-
-// Where the program stands: the number so far and whether it has a figure, how many numbers the line has, how much text is to write.
-struct Now {
-    value: u64,
-    some: bool,
-    count: usize,
-    written: usize,
-}
-
-// Before a line, with so much text.
-fn fresh(written: usize) -> Now {
-    Now {
-        value: 0,
-        some: false,
-        count: 0,
-        written,
+// The numbers of a line.
+fn answer(l: &[i32]) {
+    let storage = word(l, 0);
+    let entries = word(l, 54);
+    if (1300 < storage) | (300 < entries) {
+        return say::malformed();
     }
+    say::outcome(over(l, storage, entries))
 }
 
-// A figure.
-fn figure(now: Now, b: u8) -> Now {
-    let d = (b % 16 % 10) as u64;
-    let v = now.value % 1000000000000;
-    Now {
-        value: 10 * v + d,
-        some: true,
-        count: now.count,
-        written: now.written,
+// Answers the line in the first n bytes of its buffer.
+fn step(line: &[u8], n: usize) {
+    let mut l = [0i32; 1024];
+    let count = list::read(input::first(line, n), 1, &mut l);
+    if 1024 < count {
+        return say::malformed();
     }
+    answer(part(&l, 0, count))
 }
 
-// What is no figure ends a number, which goes into l.
-fn ended(l: &mut [u32], now: Now) -> Now {
-    let n = now.count;
-    if now.some {
-        if n < l.len() {
-            l[n] = (now.value % 4294967296) as u32;
-            return Now {
-                value: 0,
-                some: false,
-                count: n + 1,
-                written: now.written,
-            };
+// Answers each line of the input.
+fn run(block: &mut [u8], line: &mut [u8]) {
+    let mut t = input::begin();
+    let mut lines: u32 = 4294967295;
+    while 0 < lines {
+        t = input::next(block, line, t);
+        if !t.whole {
+            return;
         }
+        step(line, t.length);
+        lines -= 1;
     }
-    now
-}
-
-// The line is whole: it is answered, and the next one begins.
-fn done(l: &[u32], out: &mut [u8], now: Now) -> Now {
-    let n = now.count;
-    if n <= l.len() {
-        let k = answer(&l[..n], out, now.written);
-        let left = replay_io::flush(out, k, 4096);
-        fresh(left)
-    } else {
-        now
-    }
-}
-
-// One byte of the input.
-fn feed(b: u8, l: &mut [u32], out: &mut [u8], now: Now) -> Now {
-    if (48 <= b) & (b <= 57) {
-        return figure(now, b);
-    }
-    let t = ended(l, now);
-    if b == b'\n' {
-        return done(l, out, t);
-    }
-    t
-}
-
-// A block of the input.
-fn feed_all(block: &[u8], l: &mut [u32], out: &mut [u8], now: Now) -> Now {
-    let mut t = now;
-    let mut i: usize = 0;
-    while i < block.len() {
-        t = feed(block[i], l, out, t);
-        i += 1;
-    }
-    t
-}
-
-// Where the program stands after a read of the input, and whether more may come.
-struct Step {
-    now: Now,
-    more: bool,
-}
-
-// Reads once and answers what came; false at the end of the input.
-fn turn(l: &mut [u32], out: &mut [u8], now: Now) -> Step {
-    let mut block = io::buffer();
-    let n = replay_io::read_some(&mut block);
-    if n == 0 {
-        return Step { now, more: false };
-    }
-    let next = feed_all(&block[..n], l, out, now);
-    Step {
-        now: next,
-        more: true,
-    }
-}
-
-// Reads to the end of the input. Nothing says that it ends, so the turns are counted. How much is left to write.
-fn run(l: &mut [u32], out: &mut [u8]) -> usize {
-    let mut now = fresh(0);
-    let mut turns: u32 = 1048576;
-    while 0 < turns {
-        let t = turn(l, out, now);
-        now = t.now;
-        if t.more {
-            turns -= 1;
-        } else {
-            turns = 0;
-        }
-    }
-    now.written
 }
 
 fn main() {
-    let mut l = [0u32; 1024];
-    let mut out = [0u8; 8192];
-    let left = run(&mut l, &mut out);
-    replay_io::flush(&out, left, 0);
+    let mut block = io::large_buffer();
+    let mut line = [0u8; 12000];
+    run(&mut block, &mut line);
 }

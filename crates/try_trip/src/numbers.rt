@@ -1,26 +1,13 @@
 // The numbers of a line, and what is made of them.
-
-// The number at a place, 0 past the end.
-pub fn at(l: &[u32], i: usize) -> u32 {
-    if i < l.len() { l[i] } else { 0 }
-}
+use replay_io::list::word;
 
 // The whole number at a place.
-pub fn signed(l: &[u32], i: usize) -> i32 {
-    round_trip_run::given::value_at(at(l, i))
-}
-
-// What begins at a place; nothing past the end.
-pub fn part(l: &[u32], from: usize) -> &[u32] {
-    let n = l.len();
-    if from <= n {
-        return &l[from..];
-    }
-    &l[n..]
+pub fn signed(l: &[i32], i: usize) -> i32 {
+    round_trip_run::given::value_at(word(l, i))
 }
 
 // Whole numbers.
-pub fn copy_signed(l: &[u32], out: &mut [i32]) {
+pub fn whole(l: &[i32], out: &mut [i32]) {
     let mut i: usize = 0;
     while i < out.len() {
         let z = signed(l, i);
@@ -29,21 +16,28 @@ pub fn copy_signed(l: &[u32], out: &mut [i32]) {
     }
 }
 
-// Bytes.
-pub fn copy_bytes(l: &[u32], out: &mut [u8]) {
+// Numbers from 0 to 4,294,967,295.
+pub fn words(l: &[i32], out: &mut [u32]) {
     let mut i: usize = 0;
     while i < out.len() {
-        let b = (at(l, i) % 256) as u8;
-        out[i] = b;
+        out[i] = word(l, i);
         i += 1;
     }
 }
 
-// Every byte becomes b.
-pub fn fill(s: &mut [u8], b: u8) {
-    let mut i: usize = 0;
-    while i < s.len() {
-        s[i] = b;
-        i += 1;
+// What begins at a place; nothing past the end.
+pub fn after(l: &[i32], from: usize) -> &[i32] {
+    let n = l.len();
+    if from <= n {
+        return &l[from..];
     }
+    &l[n..]
+}
+
+// The first n.
+pub fn first(s: &[u32], n: usize) -> &[u32] {
+    if n <= s.len() {
+        return &s[..n];
+    }
+    s
 }

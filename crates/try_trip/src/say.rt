@@ -1,56 +1,41 @@
-// An outcome as text, after the first n bytes of a buffer.
-use replay_io::push;
-use replay_io::push_all;
-use replay_io::push_number;
+// An outcome as text.
+use replay_io::say::numbers;
+use replay_io::say::text;
 use round_trip_run::Call;
 use round_trip_run::Outcome;
 
-// A word, and the line's end.
-fn word(out: &mut [u8], n: usize, s: &[u8]) -> usize {
-    let k = push_all(out, n, s);
-    push(out, k, b'\n')
-}
-
 // A line that has no meaning.
-pub fn malformed(out: &mut [u8], n: usize) -> usize {
-    word(out, n, b"malformed")
+pub fn malformed() {
+    text(b"malformed\n");
 }
 
-// The place of a symbol, which is below 2^32 here.
-fn place(out: &mut [u8], n: usize, i: usize) -> usize {
+// The call of a symbol, whose place is below 2^32 here.
+fn symbol(i: usize) {
     if i <= 4294967295 {
-        push_number(out, n, i as u32)
-    } else {
-        n
+        numbers(b"refused symbol", &[i as u32]);
     }
 }
 
 // A call.
-fn call(out: &mut [u8], n: usize, by: Call) -> usize {
+fn call(by: Call) {
     match by {
-        Call::New => push_all(out, n, b"refused new"),
-        Call::Symbol(i) => {
-            let k = push_all(out, n, b"refused symbol");
-            place(out, k, i)
-        }
-        Call::Allocation => push_all(out, n, b"refused allocation"),
-        Call::Close => push_all(out, n, b"refused close"),
+        Call::New => text(b"refused new"),
+        Call::Symbol(i) => symbol(i),
+        Call::Allocation => text(b"refused allocation"),
+        Call::Close => text(b"refused close"),
     }
 }
 
-// A refusal.
-fn refused(out: &mut [u8], n: usize, by: Call, no: u32) -> usize {
-    let a = call(out, n, by);
-    let b = push_number(out, a, no);
-    push(out, b, b'\n')
-}
-
 // The line of an outcome.
-pub fn outcome(out: &mut [u8], n: usize, r: Outcome) -> usize {
+pub fn outcome(r: Outcome) {
     match r {
-        Outcome::Agreed => word(out, n, b"agreed"),
-        Outcome::Refused(by, no) => refused(out, n, by, no),
-        Outcome::NotClosed => word(out, n, b"not closed"),
-        Outcome::Disagreed => word(out, n, b"disagreed"),
+        Outcome::Agreed => text(b"agreed\n"),
+        Outcome::Refused(by, no) => {
+            call(by);
+            numbers(b"", &[no]);
+            text(b"\n");
+        }
+        Outcome::NotClosed => text(b"not closed\n"),
+        Outcome::Disagreed => text(b"disagreed\n"),
     }
 }

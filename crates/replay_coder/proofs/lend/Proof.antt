@@ -4,8 +4,11 @@ use lib.Seq.{length-take-le}
 use Rattle.replay_coder.proofs.lend.Statement.{statement}
 use Rattle.replay_coder.proofs.lend.Tie as tie
 
-cast-k : tie.Need-cast-k
-cast-k c = search needs
+returns : tie.Need-returns
+returns c = search needs
+
+first-requires : tie.Need-first-requires
+first-requires c κs = search needs
 
 slice-relend-prefix-act : tie.Need-slice-relend-prefix-act
 slice-relend-prefix-act c = search needs
@@ -13,26 +16,17 @@ slice-relend-prefix-act c = search needs
 slice-aggregate-act : tie.Need-slice-aggregate-act
 slice-aggregate-act c = search (needs, length-take-le)
 
-slice-aggregate-act-2 : tie.Need-slice-aggregate-act-2
-slice-aggregate-act-2 c = search (needs, length-take-le)
-
 act-requires : tie.Need-act-requires
 act-requires c κs = search needs
+
+turned-requires : tie.Need-turned-requires
+turned-requires c κs = search needs
 
 same-length : tie.Need-same-length
 same-length c = search needs
 
 same-length-2 : tie.Need-same-length-2
 same-length-2 c = search needs
-
-returns : tie.Need-returns
-returns c = search needs
-
-malformed-requires : tie.Need-malformed-requires
-malformed-requires c κs = search needs
-
-same-length-3 : tie.Need-same-length-3
-same-length-3 c = search needs
 
 returns-2 : tie.Need-returns-2
 returns-2 c = search needs
@@ -41,14 +35,12 @@ pub lend-spec : {M : Type 1} → statement M
 lend-spec =
     tie.close
     (tie.spec
-    cast-k
+    returns
+    first-requires
     slice-relend-prefix-act
     slice-aggregate-act
-    slice-aggregate-act-2
     act-requires
+    turned-requires
     same-length
     same-length-2
-    returns
-    malformed-requires
-    same-length-3
     returns-2)

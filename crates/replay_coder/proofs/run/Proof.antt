@@ -6,10 +6,11 @@ use Rattle.replay_coder.proofs.run.Statement.{statement}
 use Rattle.replay_coder.proofs.run.Tie as tie
 
 abbrev Inv-loop : tie.InvT-loop
-Inv-loop block₀ line₀ bytes₀ table₀ out₀ now₀ t₀ lines₀ block line bytes table out now t lines = (length block ≡ length block₀) × (length line ≡ length line₀) × (length bytes ≡ length bytes₀) × (length table ≡ length table₀) × (length out ≡ length out₀)
+Inv-loop block₀ line₀ bytes₀ table₀ places₀ now₀ t₀ lines₀ block line bytes table places now t lines =
+    (length block ≡ length block₀) × (length line ≡ length line₀) × (length bytes ≡ length bytes₀) × (length table ≡ length table₀) × (length places ≡ length places₀)
 
 abbrev μ-loop : tie.MeasureT-loop
-μ-loop block₀ line₀ bytes₀ table₀ out₀ now₀ t₀ lines₀ block line bytes table out now t lines = lines
+μ-loop block₀ line₀ bytes₀ table₀ places₀ now₀ t₀ lines₀ block line bytes table places now t lines = lines
 
 fresh-requires : tie.Need-fresh-requires Inv-loop μ-loop
 fresh-requires c κs = search needs
@@ -17,11 +18,11 @@ fresh-requires c κs = search needs
 begin-requires : tie.Need-begin-requires Inv-loop μ-loop
 begin-requires c κs = search needs
 
-next-requires : tie.Need-next-requires Inv-loop μ-loop
-next-requires c κs = search needs
-
 loop-holds : tie.Need-loop-holds Inv-loop μ-loop
 loop-holds c = search needs
+
+next-requires : tie.Need-next-requires Inv-loop μ-loop
+next-requires c κs = search needs
 
 same-length : tie.Need-same-length Inv-loop μ-loop
 same-length c = search needs
@@ -41,11 +42,8 @@ same-length-5 c = search needs
 returns : tie.Need-returns Inv-loop μ-loop
 returns c = search needs
 
-answer-requires : tie.Need-answer-requires Inv-loop μ-loop
-answer-requires c κs = search needs
-
-next-requires-2 : tie.Need-next-requires-2 Inv-loop μ-loop
-next-requires-2 c κs = search needs
+step-requires : tie.Need-step-requires Inv-loop μ-loop
+step-requires c κs = search needs
 
 sub-lines : tie.Need-sub-lines Inv-loop μ-loop
 sub-lines c = search needs
@@ -82,16 +80,15 @@ run-spec =
     μ-loop
     fresh-requires
     begin-requires
-    next-requires
     loop-holds
+    next-requires
     same-length
     same-length-2
     same-length-3
     same-length-4
     same-length-5
     returns
-    answer-requires
-    next-requires-2
+    step-requires
     sub-lines
     loop-less
     loop-again

@@ -2,9 +2,9 @@
 use native.Mathlib.Omega.{arith}
 use denote.Ref.{now}
 use borrow.Author.Needs.{needs}
-use Rattle.entenc.specs.Out.{out}
+use Rattle.entout.specs.Out.{out}
 use Rattle.entenc.specs.Write.{wr}
-use Rattle.entenc.proofs.Outs.{emit-fit, flushed-fit}
+use Rattle.entout.proofs.Outs.{emit-fit, flushed-fit}
 use Rattle.entenc.proofs.Tails.{tail-bits, tail-end, close-fit, close-is}
 use Rattle.entenc.proofs.Writer.done.Statement.{statement}
 use Rattle.entenc.proofs.Writer.done.Tie as tie

@@ -1,4 +1,7 @@
 -- `Writer::new` meets its contract. Assumes nothing.
+use native.Mathlib.Omega.{arith}
+use lib.ListN.{length}
+use denote.Ref.{now}
 use borrow.Author.Needs.{needs}
 use borrow.Author.Tests.{le-leb, lt-leb}
 use Rattle.entenc.proofs.Writer.new.Statement.{statement}
@@ -8,10 +11,10 @@ cast-t7 : tie.Need-cast-t7
 cast-t7 c = search needs
 
 returns : tie.Need-returns
-returns c = simp (le-leb _ _ (c .if1 .taken))
+returns c = simp (le-leb (length (now (c .before .args .buf))) 1275 (omega arith))
 
 returns-2 : tie.Need-returns-2
-returns-2 c = simp (lt-leb _ _ (c .if1 .left))
+returns-2 c = simp (lt-leb (length (now (c .before .args .buf))) 1275 (omega arith))
 
 pub new-spec : {M : Type 1} → statement M
 new-spec = tie.close (tie.spec cast-t7 returns returns-2)

@@ -1,9 +1,9 @@
 -- `Writer::put_bits` meets its contract, by whether the bits fit beside those that wait. Assumes nothing.
 use denote.Ref.{now}
 use borrow.Author.Needs.{needs}
-use Rattle.entenc.specs.Out.{out}
+use Rattle.entout.specs.Out.{out}
 use Rattle.entenc.specs.Write.{wr}
-use Rattle.entenc.proofs.Flushes.{bits-fit, bits-flush}
+use Rattle.entenc.proofs.RawBits.{bits-fit, bits-flush}
 use Rattle.entenc.proofs.Writer.put_bits.Statement.{statement}
 use Rattle.entenc.proofs.Writer.put_bits.Tie as tie
 

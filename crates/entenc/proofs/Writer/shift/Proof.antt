@@ -2,7 +2,7 @@
 use native.Mathlib.Omega.{arith}
 use denote.Ref.{now}
 use borrow.Author.Needs.{needs}
-use Rattle.entenc.specs.Out.{out}
+use Rattle.entout.specs.Out.{out}
 use Rattle.entenc.specs.Write.{wr}
 use Rattle.entenc.proofs.Shifts.{shift-is}
 use Rattle.entenc.proofs.Writer.shift.Statement.{statement}

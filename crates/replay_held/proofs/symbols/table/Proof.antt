@@ -1,6 +1,6 @@
 -- `replay_held::symbols::table` is safe and ends. Assumes nothing.
-use lib.Seq.{length-take-le}
 use borrow.Author.Needs.{needs}
+use lib.Seq.{length-take-le}
 use Rattle.replay_held.proofs.symbols.table.Statement.{statement}
 use Rattle.replay_held.proofs.symbols.table.Tie as tie
 
@@ -16,9 +16,6 @@ slice-aggregate-table-in c = search (needs, length-take-le)
 table-in-requires : tie.Need-table-in-requires
 table-in-requires c κs = search needs
 
-same-length : tie.Need-same-length
-same-length c = search needs
-
 returns : tie.Need-returns
 returns c = search needs
 
@@ -30,5 +27,4 @@ table-spec =
     array-borrow-prefix-t
     slice-aggregate-table-in
     table-in-requires
-    same-length
     returns)

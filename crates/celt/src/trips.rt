@@ -1,0 +1,54 @@
+// What is written is read back: the call of round_trip_run.
+use celt_trip::leave_outcome;
+use rate::Numbers;
+use round_trip_run::Wishes;
+ghost use mathlib.Core.Path.{_≡_};
+ghost use Rattle.rate.specs.Question.{numbers, wishes};
+ghost use Rattle.celt_answer.specs.Left.{left};
+ghost use Rattle.celt.specs.Trips.{trips};
+
+// Symbols, five numbers each, and an allocation are written over the bytes, closed, read back and compared; how it ended goes into outcome.
+#[no_mangle]
+pub extern "C" fn celt_round_trip(
+    bytes: &[u8],
+    symbols: &[u32],
+    tables: &[u8],
+    c: i32,
+    lm: i32,
+    start: i32,
+    end: i32,
+    trim: i32,
+    total: i32,
+    intensity: i32,
+    dual: i32,
+    previous: i32,
+    bandwidth: i32,
+    offsets: &[i32],
+    caps: &[i32],
+    outcome: &mut [u64],
+) -> u32
+    ensures { λ r.
+        ⌜ left r (now (outcome .exit))
+        ≡ trips (numbers c lm start end trim total) (wishes intensity dual previous bandwidth) (now (offsets .entry)) (now (caps .entry)) (now (bytes .entry)) (now (symbols .entry)) (now (tables .entry)) (now (outcome .entry)) ⌝ }
+{
+    if outcome.len() == 4 {
+        let q = Numbers {
+            c,
+            lm,
+            start,
+            end,
+            trim,
+            total,
+        };
+        let h = Wishes {
+            intensity,
+            dual,
+            previous,
+            bandwidth,
+        };
+        let o = round_trip_run::round_trip(bytes, symbols, tables, q, h, offsets, caps);
+        leave_outcome(o, outcome);
+        return 0;
+    }
+    2
+}

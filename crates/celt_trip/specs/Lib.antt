@@ -1,0 +1,2 @@
+-- How a round trip ended, as four numbers.
+pub mod Trip

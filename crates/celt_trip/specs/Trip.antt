@@ -1,0 +1,26 @@
+-- What the outcomes of round_trip_run say: how the trip ended (0 agreed, 1 close reported an error, 2 a call refused, 3 the reader disagreed), the call
+-- (0 new, 1 a symbol, 2 the allocation, 3 close), the symbol's place and the refusal's number, each 0 where it is none.
+use Prim.Native.Nat.{ℕ}
+use mathlib.Core.List.{List, [], _∷_}
+use Rattle.round_trip_run.specs.declared.Call.{Call}
+use Rattle.round_trip_run.specs.declared.Call.the-variants as call
+use Rattle.round_trip_run.specs.declared.Outcome.{Outcome}
+use Rattle.round_trip_run.specs.declared.Outcome.the-variants as outcome
+
+-- the four as a list
+abbrev pub four : ℕ → ℕ → ℕ → ℕ → List ℕ
+four how by place n = how ∷ by ∷ place ∷ n ∷ []
+
+-- a call refused with a number
+abbrev pub refusedBy : Call → ℕ → List ℕ
+refusedBy call.New n = four 2 0 0 n
+refusedBy (call.Symbol i) n = four 2 1 i n
+refusedBy call.Allocation n = four 2 2 0 n
+refusedBy call.Close n = four 2 3 0 n
+
+-- any outcome
+abbrev pub numbersOf : Outcome → List ℕ
+numbersOf outcome.Agreed = four 0 0 0 0
+numbersOf (outcome.Refused by n) = refusedBy by n
+numbersOf outcome.NotClosed = four 1 0 0 0
+numbersOf outcome.Disagreed = four 3 0 0 0

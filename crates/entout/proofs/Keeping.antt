@@ -1,0 +1,75 @@
+-- What stays when bytes go out, whatever the sink: the storage, the error mark once it is set, and the lent length. Assumes nothing.
+use Prim.Native.Nat.{ℕ, zero, suc, _+_, _-_, _/_, _%_}
+use mathlib.Core.Path.{_≡_, refl, _∙_}
+use mathlib.Core.Bool.{true}
+use mathlib.Core.List.{List, [], _∷_}
+use lib.ListN.{length, set, length-set}
+use lib.Dec.{leb, eqb}
+use Rattle.laws.proofs.Tests.{split-on}
+use Rattle.entout.specs.Out.{Out, isRoom, putFront, putEnd, emit, flushed}
+use Rattle.entout.specs.Gap.{zeroed, cleared, busts, finished}
+
+-- from o to o′: the storage stays, a set mark stays set, and there are as many bytes
+pub record Keeps (o o′ : Out) : Type 0 where
+  pub storage : o′ .sink .storage ≡ o .sink .storage
+  pub mark : o .sink .error ≡ true → o′ .sink .error ≡ true
+  pub long : length (o′ .bytes) ≡ length (o .bytes)
+
+pub keeps-same : (o : Out) → Keeps o o
+keeps-same o = record { storage = refl; mark = λ e. e; long = refl }
+
+pub keeps-then : {a b c : Out} → Keeps a b → Keeps b c → Keeps a c
+keeps-then p q = record { storage = q .storage ∙ p .storage; mark = λ e. q .mark (p .mark e); long = q .long ∙ p .long }
+
+-- ---- bytes
+
+front-keeps : (b : ℕ) (o : Out) → Keeps o (putFront b o)
+unfolding putFront
+front-keeps b o =
+    split-on (isRoom (o .sink))
+    (λ t. simp t (record { storage = refl; mark = λ e. e; long = length-set (o .bytes) _ _ }))
+    (λ t. simp t (record { storage = refl; mark = λ e. refl; long = refl }))
+
+end-keeps : (b : ℕ) (o : Out) → Keeps o (putEnd b o)
+unfolding putEnd
+end-keeps b o =
+    split-on (isRoom (o .sink))
+    (λ t. simp t (record { storage = refl; mark = λ e. e; long = length-set (o .bytes) _ _ }))
+    (λ t. simp t (record { storage = refl; mark = λ e. refl; long = refl }))
+
+pub emit-keeps : (bs : List ℕ) (o : Out) → Keeps o (emit bs o)
+unfolding emit
+emit-keeps [] o = keeps-same o
+emit-keeps (b ∷ bs) o = keeps-then (front-keeps b o) (emit-keeps bs (putFront b o))
+
+pub flush-keeps : (k window : ℕ) (o : Out) → Keeps o (flushed k window o)
+unfolding flushed
+flush-keeps zero window o = keeps-same o
+flush-keeps (suc k) window o = keeps-then (end-keeps (window % 256) o) (flush-keeps k (window / 256) (putEnd (window % 256) o))
+
+-- ---- a close
+
+zeroed-long : (n a : ℕ) (l : List ℕ) → length (zeroed n a l) ≡ length l
+unfolding zeroed
+zeroed-long zero a l = refl
+zeroed-long (suc n) a l = zeroed-long n (a + 1) (set l a 0) ∙ length-set l a 0
+
+module _ (window used spare : ℕ) (o : Out) where
+  cleared-long : length (cleared o) ≡ length (o .bytes)
+  cleared-long = zeroed-long (o .sink .storage - o .sink .ends - o .sink .offs) (o .sink .offs) (o .bytes)
+
+  pub finish-keeps : Keeps o (finished window used spare o)
+  unfolding finished
+  finish-keeps =
+      split-on (o .sink .error)
+      (λ t. simp t (keeps-same o))
+      (λ t.
+      split-on (eqb used 0)
+      (λ a. simp (t, a) (record { storage = refl; mark = λ e. e; long = cleared-long }))
+      (λ a.
+      split-on (leb (o .sink .storage) (o .sink .ends))
+      (λ b. simp (t, a, b) (record { storage = refl; mark = λ e. refl; long = cleared-long }))
+      (λ b.
+      split-on (busts (o .sink) used spare)
+      (λ c. simp (t, a, b, c) (record { storage = refl; mark = λ e. refl; long = length-set (cleared o) _ _ ∙ cleared-long }))
+      (λ c. simp (t, a, b, c) (record { storage = refl; mark = λ e. e; long = length-set (cleared o) _ _ ∙ cleared-long })))))

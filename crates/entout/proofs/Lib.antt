@@ -1,0 +1,4 @@
+pub mod Outs
+pub mod Flushes
+pub mod Gaps
+pub mod Keeping

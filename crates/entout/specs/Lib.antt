@@ -1,0 +1,4 @@
+pub mod Out
+pub mod Carry
+pub mod Gap
+pub mod Fit

@@ -1,0 +1,25 @@
+-- `replay_calls::allocations::ask` is safe and ends. Assumes nothing.
+use borrow.Author.Needs.{needs}
+use lib.Seq.{length-take-le}
+use Rattle.replay_calls.proofs.allocations.ask.Statement.{statement}
+use Rattle.replay_calls.proofs.allocations.ask.Tie as tie
+
+length-at-requires : tie.Need-length-at-requires
+length-at-requires c κs = search needs
+
+array-borrow-prefix-s : tie.Need-array-borrow-prefix-s
+array-borrow-prefix-s c = search needs
+
+slice-aggregate-lend : tie.Need-slice-aggregate-lend
+slice-aggregate-lend c = search (needs, length-take-le)
+
+lend-requires : tie.Need-lend-requires
+lend-requires c κs = search needs
+
+returns : tie.Need-returns
+returns c = search needs
+
+pub ask-spec : {M : Type 1} → statement M
+ask-spec =
+    tie.close
+    (tie.spec length-at-requires array-borrow-prefix-s slice-aggregate-lend lend-requires returns)
