@@ -1,7 +1,7 @@
 /*
- * The range coder of CELT (RFC 6716), its Laplace values, pulse words, lookups, bit allocation, energies and shapes, the stream record and the
- * lister: what libcelt.a has. `rt staticlib celt`, run in the repository, proves every call and writes target/staticlib/libcelt.a, for x86-64
- * Linux.
+ * The range coder of CELT (RFC 6716), its Laplace values, pulse words, lookups, bit allocation, energies and shapes, the stream record, the
+ * lister and the round trip: what libcelt.a has. `rt staticlib celt`, run in the repository, proves every call and writes
+ * target/staticlib/libcelt.a, for x86-64 Linux.
  *
  * Every call answers 0, or the number of a refusal (enum celt_refusal), and then every list is as it was. It takes any number and any length.
  *
@@ -31,7 +31,9 @@ enum {
     CELT_ROOM = 176,    /* the places of a pulse vector */
     CELT_ENERGIES = 42, /* the energies of two channels; channel 1 from place 21 */
     CELT_LINE = 390,    /* or more: bytes for a saved record's line */
-    CELT_LISTED = 1200  /* or more: bytes for the lister's answer to a line */
+    CELT_LISTED = 1200, /* or more: bytes for the lister's answer to a line */
+    CELT_SYMBOL = 5,    /* the numbers of one symbol of a round trip */
+    CELT_OUTCOME = 4    /* how a round trip ended (enum celt_outcome) */
 };
 
 /* What stands where in a state. */
@@ -201,6 +203,38 @@ uint32_t celt_record_restore(const uint8_t *line, size_t line_n, float *energies
 /* The lister's answer to a request line, without its line feed, to the front of out, which has CELT_LISTED bytes or more, and the answer's
  * length. The number is the line's. A request that is refused is answered too, by an X line; the call itself is refused as CELT_LENGTH alone. */
 uint32_t celt_list(const uint8_t *line, size_t line_n, uint32_t number, uint8_t *out, size_t out_n, size_t *length, size_t length_n);
+
+/* ---- the round trip: what is written and closed is read back */
+
+/* The first of a symbol's CELT_SYMBOL numbers; any other number is CELT_LAPLACE too. After it come
+ *   CELT_BIT      the bit, logp
+ *   CELT_TABLE    the symbol, ftb, the place of its first entry in tables, how many entries it has
+ *   CELT_UNIFORM  the number, ft
+ *   CELT_RAW      the bits, how many they are
+ *   CELT_LAPLACE  0, 1, 2, 3, 4, .. for the value 0, -1, 1, -2, 2, .., fs, decay
+ * and the rest of the five, which is not looked at. Of a table that goes past the end of tables the entries up to there are taken. */
+enum celt_kind { CELT_BIT, CELT_TABLE, CELT_UNIFORM, CELT_RAW, CELT_LAPLACE };
+
+/* What stands where in an outcome. */
+enum celt_outcome {
+    CELT_ENDED, /* enum celt_end */
+    CELT_BY,    /* the call that refused (enum celt_call), else 0 */
+    CELT_WHICH, /* of a symbol that was refused, its place in the list of symbols, from 0; else 0 */
+    CELT_WHY    /* the refusal (enum celt_refusal), else 0 */
+};
+
+/* CELT_DISAGREED is never answered: it is proved that a reader agrees wherever close reported no error. */
+enum celt_end { CELT_AGREED, CELT_NOT_CLOSED, CELT_REFUSED, CELT_DISAGREED };
+enum celt_call { CELT_BY_NEW, CELT_BY_SYMBOL, CELT_BY_ALLOCATION, CELT_BY_CLOSE };
+
+/* Writes the symbols and an allocation with a new writer over a copy of the bytes, closes, reads all back and compares: each value, what is told
+ * after each symbol, the allocation's numbers and lists. How it ended goes into outcome: a call of the writer that is refused ends it, and so does a
+ * close that sets the error mark. A rest of fewer than CELT_SYMBOL numbers is no symbol. The call itself is refused as CELT_LENGTH alone, where
+ * outcome has not CELT_OUTCOME numbers. */
+uint32_t celt_round_trip(const uint8_t *bytes, size_t bytes_n, const uint32_t *symbols, size_t symbols_n, const uint8_t *tables,
+                         size_t tables_n, int32_t c, int32_t lm, int32_t start, int32_t end, int32_t trim, int32_t total,
+                         int32_t intensity, int32_t dual, int32_t previous, int32_t bandwidth, const int32_t *offsets, size_t offsets_n,
+                         const int32_t *caps, size_t caps_n, uint64_t *outcome, size_t outcome_n);
 
 #ifdef __cplusplus
 }

@@ -7,6 +7,7 @@ int main(void) {
     try_coder();
     try_frames();
     try_record();
+    try_trip();
     try_order();
     printf("%u checks, %u failed\n", tried, failed);
     return failed != 0;

@@ -41,6 +41,7 @@ static inline float float_of(uint32_t bits) {
 void try_coder(void);  /* try_coder.c: symbols, states, lookups, allocation */
 void try_frames(void); /* try_frames.c: energies and shapes */
 void try_record(void); /* try_record.c: the stream record, its lines, the lister */
+void try_trip(void);   /* try_trip.c: the round trip */
 void try_order(void);  /* try_order.c: every refusal of every call, and their order */
 
 #endif

@@ -20,11 +20,13 @@ struct given {
     float shape[N + 1];
     uint64_t next[2];
     size_t length[2];
+    uint32_t symbols[CELT_SYMBOL];
+    uint64_t outcome[CELT_OUTCOME + 1];
     uint8_t line[4 + 9 * CELT_ENERGIES]; /* E, the number 5, energies of 1 */
     uint8_t saved[CELT_LINE];
     uint8_t out[CELT_LISTED];
     size_t state_n, bytes_n, table_n, value_n, counted_n, y_n, offsets_n, caps_n, pulses_n, fine_n, priorities_n, shown_n, energies_n, shape_n;
-    size_t next_n, length_n, line_n, saved_n, out_n;
+    size_t next_n, length_n, line_n, saved_n, out_n, symbols_n, outcome_n;
     uint32_t logp, ftb, ft, raw, bit, symbol, below, raw_value, fs, decay, n, k;
     int32_t z, index, band, cache_lm, bits, row_index;
     int32_t c, lm, start, end, trim, total, intensity, dual, previous, bandwidth, intra, left, places, count, spread, parts;
@@ -38,6 +40,7 @@ static void good(struct given *g, int writes) {
     g->state_n = CELT_STATE, g->bytes_n = BYTES, g->table_n = 3, g->value_n = g->counted_n = g->next_n = g->length_n = 1, g->y_n = CELT_ROOM;
     g->offsets_n = g->caps_n = g->pulses_n = g->fine_n = g->priorities_n = CELT_BANDS, g->shown_n = CELT_SHOWN;
     g->energies_n = CELT_ENERGIES, g->shape_n = N, g->saved_n = CELT_LINE, g->out_n = CELT_LISTED;
+    g->symbols_n = CELT_SYMBOL, g->outcome_n = CELT_OUTCOME;
     g->table[0] = 2, g->table[1] = 1;
     g->logp = 3, g->ftb = 2, g->ft = 1000, g->raw = 5, g->bit = 1, g->symbol = 1, g->below = 999, g->raw_value = 31, g->fs = 72 << 7, g->decay = 127 << 6;
     g->n = N, g->k = K, g->y[1] = -3, g->y[5] = 1;
@@ -45,6 +48,7 @@ static void good(struct given *g, int writes) {
     g->c = 2, g->lm = 1, g->start = 2, g->end = 19, g->trim = 5, g->total = 2000, g->intensity = 5, g->dual = 1, g->intra = 1, g->left = 3;
     g->places = N, g->count = K, g->parts = 4, g->gain = 0.5f;
     g->next[0] = g->number = 5;
+    g->symbols[0] = CELT_UNIFORM, g->symbols[1] = 999, g->symbols[2] = 1000;
     for (i = 0; i < CELT_BANDS; i++)
         g->caps[i] = 1000;
     n = (size_t)sprintf((char *)g->line, "E\t5");
@@ -140,6 +144,9 @@ CALL(record_save, L(energies), g->next[0], L(saved), L(length)) = {SIZED(energie
 CALL(record_restore, L(line), L(energies), L(next)) = {
     SIZED(energies_n, CELT_ENERGIES), SIZED(next_n, 1), WRONG(CELT_NUMBER, line[0], 'F'), WRONG(CELT_NUMBER, line[2], '-'), WRONG(CELT_ENTRY, line[4], '7')};
 CALL(list, L(line), 1, L(out), L(length)) = {WRONG(CELT_LENGTH, out_n, CELT_LISTED - 1), SIZED(length_n, 1)};
+/* what a call of the trip refuses is no refusal of the trip */
+CALL(round_trip, L(bytes), L(symbols), L(table), g->c, g->lm, g->start, g->end, g->trim, g->total, g->intensity, g->dual, g->previous, g->bandwidth,
+     L(offsets), L(caps), L(outcome)) = {SIZED(outcome_n, CELT_OUTCOME), WRONG(0, symbols[2], 1), WRONG(0, offsets_n, 0), WRONG(0, c, 9), WRONG(0, bytes_n, 0)};
 
 static const struct {
     const char *name;
@@ -155,7 +162,7 @@ static const struct {
     WRITES(enc_tell_frac), READS(laplace_decode), WRITES(laplace_encode), READS(decode_pulses), WRITES(encode_pulses), READS(get_pulses),
     READS(bits2pulses), READS(pulses2bits), READS(compute_allocation_read), WRITES(compute_allocation_write), READS(unquant_coarse_energy),
     READS(unquant_energy_finalise), READS(alg_unquant), READS(record_fresh), READS(record_frame), READS(record_save), READS(record_restore),
-    READS(list),
+    READS(list), READS(round_trip),
 };
 
 /* The answer is this one; a refusal leaves everything. */

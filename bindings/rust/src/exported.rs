@@ -231,4 +231,28 @@ extern "C" {
     pub fn celt_record_restore(line: *const u8, line_n: usize, energies: *mut f32, energies_n: usize, next: *mut u64, next_n: usize)
         -> u32;
     pub fn celt_list(line: *const u8, line_n: usize, number: u32, out: *mut u8, out_n: usize, length: *mut usize, length_n: usize) -> u32;
+    pub fn celt_round_trip(
+        bytes: *const u8,
+        bytes_n: usize,
+        symbols: *const u32,
+        symbols_n: usize,
+        tables: *const u8,
+        tables_n: usize,
+        c: i32,
+        lm: i32,
+        start: i32,
+        end: i32,
+        trim: i32,
+        total: i32,
+        intensity: i32,
+        dual: i32,
+        previous: i32,
+        bandwidth: i32,
+        offsets: *const i32,
+        offsets_n: usize,
+        caps: *const i32,
+        caps_n: usize,
+        outcome: *mut u64,
+        outcome_n: usize,
+    ) -> u32;
 }

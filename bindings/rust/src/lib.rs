@@ -1,9 +1,10 @@
-//! CELT's range coder (RFC 6716), its Laplace values, pulse words, lookups, bit allocation, energies and shapes, the stream record and the lister.
+//! CELT's range coder (RFC 6716), its Laplace values, pulse words, lookups, bit allocation, energies and shapes, the stream record,
+//! the lister and the round trip.
 //!
 //! Every call runs code that the Rattle prover has proved: it takes any bytes and numbers, ends, and either gives what the RFC's definition
 //! gives or refuses with a number ([`Refusal`]) and changes nothing. This crate adds no logic: [`Reader`] and [`Writer`] hold a coder's state
-//! and its bytes, [`Record`] the energies of a stream and its next frame number, and [`raw`] has the exported calls themselves, over slices of any
-//! length.
+//! and its bytes, [`Record`] the energies of a stream and its next frame number, [`round_trip`] reads back what it wrote, and [`raw`] has the
+//! exported calls themselves, over slices of any length.
 //!
 //! ```
 //! # fn main() -> Result<(), celt::Refusal> {
@@ -32,6 +33,7 @@ mod reader;
 mod record;
 mod refusal;
 mod state;
+mod trip;
 mod writer;
 
 pub use allocation::{Allocation, Frame, Wishes, BANDS};
@@ -42,6 +44,7 @@ pub use reader::Reader;
 pub use record::Record;
 pub use refusal::Refusal;
 pub use state::State;
+pub use trip::{round_trip, Call, Outcome, Symbol};
 pub use writer::Writer;
 
 /// How many places a pulse vector has room for.

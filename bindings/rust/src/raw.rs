@@ -527,3 +527,54 @@ pub fn list(line: &[u8], number: u32, out: &mut [u8], length: &mut [usize]) -> u
         )
     }
 }
+
+// ---- The round trip
+
+/// Writes symbols, five numbers each, and an allocation with a new writer over a copy of the bytes, closes, reads back and compares; how it ended goes
+/// into outcome, four numbers (bindings/c/celt.h says which).
+#[allow(clippy::too_many_arguments)]
+pub fn round_trip(
+    bytes: &[u8],
+    symbols: &[u32],
+    tables: &[u8],
+    c: i32,
+    lm: i32,
+    start: i32,
+    end: i32,
+    trim: i32,
+    total: i32,
+    intensity: i32,
+    dual: i32,
+    previous: i32,
+    bandwidth: i32,
+    offsets: &[i32],
+    caps: &[i32],
+    outcome: &mut [u64],
+) -> u32 {
+    unsafe {
+        exported::celt_round_trip(
+            bytes.as_ptr(),
+            bytes.len(),
+            symbols.as_ptr(),
+            symbols.len(),
+            tables.as_ptr(),
+            tables.len(),
+            c,
+            lm,
+            start,
+            end,
+            trim,
+            total,
+            intensity,
+            dual,
+            previous,
+            bandwidth,
+            offsets.as_ptr(),
+            offsets.len(),
+            caps.as_ptr(),
+            caps.len(),
+            outcome.as_mut_ptr(),
+            outcome.len(),
+        )
+    }
+}
