@@ -1,10 +1,11 @@
 // Links the port's static library, which stands in the folder that the environment names, and marks the kinds of which it has every call, so that a
 // library from before a kind was exported can still be compared in all others.
-const KINDS: [(&str, &[&str]); 4] = [
+const KINDS: [(&str, &[&str]); 5] = [
     ("has_energies", &["celt_unquant_coarse_energy", "celt_unquant_energy_finalise"]),
     ("has_shapes", &["celt_alg_unquant"]),
     ("has_record", &["celt_record_fresh", "celt_record_order", "celt_record_frame", "celt_record_save", "celt_record_restore"]),
     ("has_listing", &["celt_list"]),
+    ("has_trip", &["celt_round_trip"]),
 ];
 
 fn main() {

@@ -57,7 +57,7 @@ pub fn allocations(root: &str) -> Vec<Question> {
     file(root, "tools/compare/driver/src/alloc_traffic.txt").lines().map(line).collect()
 }
 
-/// The requests of crates/replay_alloc/stdin after those that repeat the recorded calls: allocations by chance. tools/compare's alloc.rs has their
+/// The allocations of crates/replay_calls/stdin after those that repeat the recorded calls: allocations by chance. tools/compare's alloc.rs has their
 /// form: the coder's state, ten numbers, six lengths, then offsets, caps and bytes. Those with a list of another length are passed over.
 pub fn any_allocations(root: &str, recorded: usize) -> Vec<Question> {
     let line = |line: &str| {
@@ -76,7 +76,8 @@ pub fn any_allocations(root: &str, recorded: usize) -> Vec<Question> {
             bytes: n[70..].iter().map(|&b| b as u8).collect(),
         })
     };
-    file(root, "crates/replay_alloc/stdin").lines().skip(recorded).filter_map(line).collect()
+    let requests = file(root, "crates/replay_calls/stdin");
+    requests.lines().filter(|line| line.starts_with(['R', 'W'])).skip(recorded).filter_map(line).collect()
 }
 
 /// A decoding of coarse energies, or of a frame's last bits.

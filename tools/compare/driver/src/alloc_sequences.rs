@@ -106,7 +106,8 @@ fn any_total(r: &mut Random, storage: u32) -> i32 {
     }
 }
 
-fn any_offsets(r: &mut Random) -> Vec<i32> {
+/// Offsets of the domain.
+pub fn any_offsets(r: &mut Random) -> Vec<i32> {
     let kind = r.below(20);
     let place = r.below(21);
     let mut list = vec![0; 21];
@@ -133,7 +134,8 @@ fn usual_caps(c: i32, lm: i32) -> Vec<i32> {
     caps
 }
 
-fn any_caps(r: &mut Random, c: i32, lm: i32) -> Vec<i32> {
+/// Caps of the domain, more often than not the usual ones.
+pub fn any_caps(r: &mut Random, c: i32, lm: i32) -> Vec<i32> {
     let kind = r.below(20);
     let mut caps = usual_caps(c, lm);
     for v in caps.iter_mut() {
@@ -150,7 +152,8 @@ fn any_caps(r: &mut Random, c: i32, lm: i32) -> Vec<i32> {
     caps
 }
 
-fn any_numbers(r: &mut Random, storage: u32) -> Numbers {
+/// Numbers of the domain; a total that fits the storage more often than not.
+pub fn any_numbers(r: &mut Random, storage: u32) -> Numbers {
     let start = match r.below(8) {
         0..=3 => 0,
         4 => 17,

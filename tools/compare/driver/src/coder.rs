@@ -183,12 +183,18 @@ pub struct Oracle {
     pub stage: Stage,
     pub at: ec_ctx_saved,
     pub tell: u32,
+    pub frac: u32,
     pub value: u32,
 }
 
 impl Oracle {
     pub fn new() -> Self {
-        Oracle { bytes: vec![], table: vec![], ftb: 0, stage: Stage::Idle, at: ec_ctx_saved::default(), tell: 0, value: 0 }
+        Oracle::over(vec![])
+    }
+
+    /// Before the first request, over these bytes.
+    pub fn over(bytes: Vec<u8>) -> Self {
+        Oracle { bytes, table: vec![], ftb: 0, stage: Stage::Idle, at: ec_ctx_saved::default(), tell: 0, frac: 0, value: 0 }
     }
 
     /// Document 01's refusals; the call's own, of pulse words, stand in words.rs.
@@ -224,7 +230,7 @@ impl Oracle {
             "the crate and libopus differ at '{letter}'"
         );
         self.at = left.at;
-        self.tell = left.tell;
+        (self.tell, self.frac) = (left.tell, left.frac);
         self.value = left.value;
         self.stage = match call {
             Call::Writer => Stage::Writing,
@@ -280,7 +286,7 @@ impl Oracle {
     }
 
     /// A state that is handed in, and its line. Where it breaks its rule, tell and tell_frac are refused.
-    fn hand(&mut self, letter: &str, state: &states::State, stage: Stage) -> String {
+    pub fn hand(&mut self, letter: &str, state: &states::State, stage: Stage) -> String {
         self.at = states::saved(state);
         if stage != Stage::Reading {
             self.at.rem = if state[9] == 256 { -1 } else { self.at.rem };
@@ -296,7 +302,7 @@ impl Oracle {
         // The bytes outlive the call.
         let second = unsafe { libopus::ec_tell_frac(&mut states::lent(&self.at, &mut self.bytes)) };
         assert!(frac == second, "the crate and libopus differ at '{letter}'");
-        self.tell = tell;
+        (self.tell, self.frac) = (tell, frac);
         self.line(letter.to_string(), format!("{tell} {frac}"))
     }
 }

@@ -6,7 +6,7 @@ use crate::{Sequence, Side};
 
 /// A symbol's kind. A table has its entries and the logarithm of its places.
 #[derive(Clone, PartialEq)]
-enum Shape {
+pub enum Shape {
     Bit(u32),
     Table(Vec<u8>, u32),
     Uniform(u32),
@@ -78,7 +78,8 @@ fn any_uniform(r: &mut Random) -> Shape {
     Shape::Uniform(ft)
 }
 
-fn any(r: &mut Random) -> Shape {
+/// Any kind.
+pub fn any(r: &mut Random) -> Shape {
     match r.below(4) {
         0 => Shape::Bit(r.within(1, 15)),
         1 => any_table(r),
@@ -88,7 +89,7 @@ fn any(r: &mut Random) -> Shape {
 }
 
 /// A kind that takes few bits, so that a small storage holds several symbols.
-fn small(r: &mut Random) -> Shape {
+pub fn small(r: &mut Random) -> Shape {
     match r.below(4) {
         0 => Shape::Bit(r.within(1, 4)),
         1 => table(r, 3, 5),
@@ -97,7 +98,8 @@ fn small(r: &mut Random) -> Shape {
     }
 }
 
-fn value(r: &mut Random, shape: &Shape) -> u32 {
+/// A value of the kind, the first and the last more often than others.
+pub fn value(r: &mut Random, shape: &Shape) -> u32 {
     match r.below(8) {
         0 => (shape.count() - 1) as u32,
         1 => 0,

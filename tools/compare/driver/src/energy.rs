@@ -83,7 +83,8 @@ impl Asked {
         }
     }
 
-    fn floats(&self) -> Vec<f32> {
+    /// The energies.
+    pub fn floats(&self) -> Vec<f32> {
         self.energies.iter().map(|&v| f32::from_bits(v)).collect()
     }
 

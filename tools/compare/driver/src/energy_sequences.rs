@@ -49,7 +49,8 @@ fn recorded(line: &str) -> Asked {
     a
 }
 
-fn traffic(_: &mut Random, list: &mut Vec<Asked>) {
+/// The recorded calls, which both oracles answer as they were answered then.
+pub fn traffic(_: &mut Random, list: &mut Vec<Asked>) {
     list.extend(include_str!("energy_traffic.txt").lines().map(recorded));
 }
 

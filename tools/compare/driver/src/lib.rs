@@ -7,16 +7,24 @@ pub mod coder;
 pub mod coder_sequences;
 pub mod energy;
 pub mod energy_sequences;
+pub mod held;
+pub mod held_sequences;
 pub mod laplace_sequences;
 pub mod listing;
 pub mod listing_sequences;
 pub mod lookups;
 pub mod pulse_sequences;
 pub mod random;
+pub mod record;
 pub mod refusals;
+pub mod saved_lines;
 pub mod shape;
 pub mod shape_sequences;
 pub mod states;
+pub mod stream;
+pub mod stream_sequences;
+pub mod trip;
+pub mod trip_sequences;
 pub mod words;
 
 /// Request lines that stand for themselves: no answer depends on an earlier sequence.

@@ -1,7 +1,10 @@
 //! The allocation's lookups: their answers and their requests. The crate answers, inside document 01's refusals. libopus has them inline alone, so
-//! that its archive has none.
+//! that its archive has none. A request is one line that stands for itself, and its answer is the letter and what was found, or X and a refusal's number.
+//!
+//!     G i               get_pulses
+//!     B band LM bits    bits2pulses               b band LM pulses    pulses2bits
 use crate::random::Random;
-use crate::Sequence;
+use crate::{Sequence, Side};
 use oracle::celt::modes::static_modes_float_h::{cache_bits50, cache_index50};
 use oracle::celt::{modes, rate};
 
@@ -45,6 +48,16 @@ pub fn answer(letter: &str, n: &[i64]) -> String {
         }
     };
     format!("{letter} {found}")
+}
+
+/// The oracle's side of a sequence.
+pub struct Oracle;
+
+impl Side for Oracle {
+    fn answer(&mut self, line: &str) -> Option<String> {
+        let n: Vec<i64> = line[1..].split_whitespace().map(|w| w.parse().unwrap_or_else(|_| panic!("'{line}' is no request"))).collect();
+        Some(answer(&line[..1], &n))
+    }
 }
 
 /// Every index, and those outside.
@@ -99,7 +112,7 @@ pub fn all(r: &mut Random) -> Vec<Sequence> {
 /// What the sequences reach, for the reader of the record.
 pub fn figures(sequences: &[Sequence]) -> Vec<String> {
     let mut calls = std::collections::BTreeMap::<String, u32>::new();
-    for line in sequences.concat().iter().filter(|line| matches!(&line[..1], "G" | "B" | "b")) {
+    for line in &sequences.concat() {
         let n: Vec<i64> = line.split(' ').skip(1).map(|w| w.parse().expect("a number")).collect();
         let answer = answer(&line[..1], &n);
         *calls.entry(if answer.starts_with('X') { answer } else { line[..1].to_string() }).or_default() += 1;

@@ -6,6 +6,8 @@ use std::process::{Command, Stdio};
 /// A kind of request: what --record, --answer and --compare need to know of it.
 struct Kind {
     name: &'static str,
+    /// The program that answers it, which may answer other kinds too.
+    program: &'static str,
     sequences: fn(&mut random::Random) -> Vec<Sequence>,
     oracle: fn() -> Box<dyn Side>,
     figures: fn(&[Sequence]) -> Vec<String>,
@@ -13,9 +15,10 @@ struct Kind {
     open_end: bool,
 }
 
-const KINDS: [Kind; 6] = [
+const KINDS: [Kind; 10] = [
     Kind {
         name: "coder",
+        program: "replay_coder",
         sequences: coder_sequences::all,
         oracle: || Box::new(coder::Oracle::new()),
         figures: coder_sequences::figures,
@@ -23,13 +26,23 @@ const KINDS: [Kind; 6] = [
     },
     Kind {
         name: "words",
-        sequences: |r| [laplace_sequences::all(r), pulse_sequences::all(r), lookups::all(r)].concat(),
+        program: "replay_coder",
+        sequences: |r| [laplace_sequences::all(r), pulse_sequences::all(r)].concat(),
         oracle: || Box::new(words::Oracle::new()),
-        figures: |list| [laplace_sequences::figures(list), pulse_sequences::figures(list), lookups::figures(list)].concat(),
+        figures: |list| [laplace_sequences::figures(list), pulse_sequences::figures(list)].concat(),
+        open_end: false,
+    },
+    Kind {
+        name: "lookups",
+        program: "replay_calls",
+        sequences: lookups::all,
+        oracle: || Box::new(lookups::Oracle),
+        figures: lookups::figures,
         open_end: false,
     },
     Kind {
         name: "alloc",
+        program: "replay_calls",
         sequences: alloc_sequences::all,
         oracle: || Box::new(alloc::Oracle),
         figures: alloc_sequences::figures,
@@ -37,6 +50,7 @@ const KINDS: [Kind; 6] = [
     },
     Kind {
         name: "listing",
+        program: "lister",
         sequences: listing_sequences::all,
         oracle: || Box::new(listing::Oracle(0)),
         figures: listing_sequences::figures,
@@ -44,6 +58,7 @@ const KINDS: [Kind; 6] = [
     },
     Kind {
         name: "energy",
+        program: "replay_calls",
         sequences: energy_sequences::all,
         oracle: || Box::new(energy::Oracle),
         figures: energy_sequences::figures,
@@ -51,9 +66,34 @@ const KINDS: [Kind; 6] = [
     },
     Kind {
         name: "shape",
+        program: "replay_calls",
         sequences: shape_sequences::all,
         oracle: || Box::new(shape::Oracle),
         figures: shape_sequences::figures,
+        open_end: false,
+    },
+    Kind {
+        name: "held",
+        program: "replay_held",
+        sequences: held_sequences::all,
+        oracle: || Box::new(held::Oracle),
+        figures: held_sequences::figures,
+        open_end: false,
+    },
+    Kind {
+        name: "trip",
+        program: "try_trip",
+        sequences: trip_sequences::all,
+        oracle: || Box::new(trip::Oracle),
+        figures: trip_sequences::figures,
+        open_end: false,
+    },
+    Kind {
+        name: "stream",
+        program: "try_stream",
+        sequences: stream_sequences::all,
+        oracle: || Box::new(stream::Oracle::new()),
+        figures: stream_sequences::figures,
         open_end: false,
     },
 ];
@@ -76,29 +116,35 @@ fn joined(lines: &[String]) -> String {
     lines.iter().map(|line| format!("{line}\n")).collect()
 }
 
+/// Writes stdin and stdout of a kind's program: the requests of each kind that it answers, one kind after the other, each from the seed.
 fn record(kind: &Kind, folder: &str) {
-    let sequences = (kind.sequences)(&mut random::Random::new(SEED));
-    let lines = sequences.concat();
-    let said = answers(kind, &lines);
-    let mut asked = joined(&lines);
-    if kind.open_end {
-        asked.pop();
+    let (mut asked, mut said) = (String::new(), String::new());
+    for kind in KINDS.iter().filter(|k| k.program == kind.program) {
+        let sequences = (kind.sequences)(&mut random::Random::new(SEED));
+        let lines = sequences.concat();
+        let answered = answers(kind, &lines);
+        asked += &joined(&lines);
+        if kind.open_end {
+            asked.pop();
+        }
+        said += &joined(&answered);
+        eprintln!("{}: seed {SEED}, {} sequences, {} requests, {} answers", kind.name, sequences.len(), lines.len(), answered.len());
+        for line in (kind.figures)(&sequences) {
+            eprintln!("{line}");
+        }
     }
-    for (name, text) in [("stdin", asked), ("stdout", joined(&said))] {
+    for (name, text) in [("stdin", asked), ("stdout", said)] {
         let path = format!("{folder}/{name}");
         std::fs::write(&path, &text).unwrap_or_else(|e| fail(&format!("{path}: {e}")));
         eprintln!("{path}: {} lines, {} bytes", text.lines().count(), text.len());
-    }
-    eprintln!("{}: seed {SEED}, {} sequences", kind.name, sequences.len());
-    for line in (kind.figures)(&sequences) {
-        eprintln!("{line}");
     }
 }
 
 fn answer(kind: &Kind) {
     let mut text = String::new();
     std::io::stdin().read_to_string(&mut text).unwrap_or_else(|e| fail(&format!("standard input: {e}")));
-    let lines: Vec<String> = text.lines().map(str::to_string).collect();
+    // A line feed alone ends a line, as in the programs.
+    let lines: Vec<String> = text.split_terminator('\n').map(str::to_string).collect();
     print!("{}", joined(&answers(kind, &lines)));
 }
 

@@ -1,19 +1,15 @@
-//! Requests of Laplace values, pulse words and the allocation's lookups. The crate answers Laplace values, and libopus must agree. The crate
-//! has no encode_pulses and no decode_pulses, so that libopus alone answers pulse words. Lookups are the crate's (lookups.rs). S, D, C, O, K and k
-//! are the range coder's requests (coder.rs), with its answers.
+//! Requests of Laplace values and pulse words. The crate answers Laplace values, and libopus must agree. The crate has no encode_pulses and no
+//! decode_pulses, so that libopus alone answers pulse words. S, D, C, O, K and k are the range coder's requests (coder.rs), with its answers.
 //!
 //!     P fs decay        the pair of later L and l
 //!     L value           writes a value                                  l        reads one
 //!     Z                 the 176 places are zero                         A place value    one is the value
 //!     W n k             writes the vector in the first n places         w n k    reads one into them
-//!     G i               get_pulses
-//!     B band LM bits    bits2pulses                                     b band LM pulses    pulses2bits
 //!
 //! Of L and l the answer is the letter, the value that counts as written or was read, and the state as in coder.rs. Of W it is the
 //! letter, total, rng and val; of w the letter, the energy, error, total, rng and val, and then each place of the 176 that is not zero,
-//! with its value. Of a lookup it is the letter and what was found. P, Z and A have no answer.
+//! with its value. P, Z and A have no answer.
 use crate::coder::{self, Call, Stage};
-use crate::lookups;
 use crate::random::Random;
 use crate::{Sequence, Side};
 use oracle::celt::entcode::ec_tell;
@@ -119,7 +115,6 @@ impl Side for Oracle {
         let reads = self.coder.stage == Stage::Reading;
         match (letter, n.as_slice()) {
             ("S" | "D" | "C" | "O" | "K" | "k", _) => self.coder.answer(line),
-            ("G" | "B" | "b", n) => Some(lookups::answer(letter, n)),
             ("P", &[fs, decay]) => {
                 self.pair = (fs as u32, decay as u32);
                 None

@@ -8,7 +8,7 @@ use crate::question::{asked, changed, oddly, zeroed, Question};
 use crate::tally::{Name, Tally, Why, NAMES};
 use crate::walk::hex;
 use crate::Run;
-use driver::alloc::{by_crate, by_libopus, Asked, Given};
+use driver::alloc::{by_crate, by_libopus, Asked, Given, Numbers};
 use driver::alloc_sequences as sequences;
 use driver::coder::{self, Call};
 use driver::random::Random;
@@ -117,21 +117,25 @@ pub fn fixed(run: &mut Run) -> Result<(), String> {
     Ok(())
 }
 
+/// A number at a limit of its domain or outside it.
+pub fn odd_numbers(r: &mut Random, n: &mut Numbers) {
+    match r.below(9) {
+        0 => n.c = r.one_of(&[0, 1, 2, 3, i32::MIN, i32::MAX]),
+        1 => n.lm = r.one_of(&[-1, 0, 3, 4, i32::MAX]),
+        2 => n.start = r.one_of(&[-1, 0, n.end.wrapping_sub(1), n.end, 21, i32::MIN]),
+        3 => n.end = r.one_of(&[n.start, n.start.wrapping_add(1), 21, 22, i32::MAX]),
+        4 => n.trim = r.one_of(&[-1, 0, 10, 11]),
+        5 => n.total = r.one_of(&[i32::MIN, -1, 0, 81600, 81601, i32::MAX]),
+        6 => n.intensity = r.one_of(&[n.start.wrapping_sub(1), n.start, n.end, n.end.wrapping_add(1), i32::MIN, i32::MAX]),
+        7 => n.dual = r.one_of(&[-1, 0, 1, 2, i32::MAX]),
+        _ => (n.previous, n.bandwidth) = (r.one_of(&[i32::MIN, i32::MAX]), r.one_of(&[i32::MIN, i32::MAX])),
+    }
+}
+
 /// One thing at a limit of its domain or outside it.
 fn odd(r: &mut Random, q: &mut Allocation) {
-    let n = &mut q.asked.numbers;
     match r.below(4) {
-        0 => match r.below(9) {
-            0 => n.c = r.one_of(&[0, 1, 2, 3, i32::MIN, i32::MAX]),
-            1 => n.lm = r.one_of(&[-1, 0, 3, 4, i32::MAX]),
-            2 => n.start = r.one_of(&[-1, 0, n.end.wrapping_sub(1), n.end, 21, i32::MIN]),
-            3 => n.end = r.one_of(&[n.start, n.start.wrapping_add(1), 21, 22, i32::MAX]),
-            4 => n.trim = r.one_of(&[-1, 0, 10, 11]),
-            5 => n.total = r.one_of(&[i32::MIN, -1, 0, 81600, 81601, i32::MAX]),
-            6 => n.intensity = r.one_of(&[n.start.wrapping_sub(1), n.start, n.end, n.end.wrapping_add(1), i32::MIN, i32::MAX]),
-            7 => n.dual = r.one_of(&[-1, 0, 1, 2, i32::MAX]),
-            _ => (n.previous, n.bandwidth) = (r.one_of(&[i32::MIN, i32::MAX]), r.one_of(&[i32::MIN, i32::MAX])),
-        },
+        0 => odd_numbers(r, &mut q.asked.numbers),
         1 => {
             let (list, most) = if r.below(2) == 0 { (&mut q.asked.offsets, 81600) } else { (&mut q.asked.caps, 32767) };
             let at = r.below(21) as usize;

@@ -42,7 +42,7 @@ fn tables() -> &'static (Vec<Table>, Vec<Table>) {
 
 /// How the symbols of a sequence are chosen.
 #[derive(Clone, Copy)]
-enum Family {
+pub enum Family {
     Any,
     Small,
     Large,
@@ -93,7 +93,7 @@ fn at_the_carry(state: &List, ft: u32) -> Call<'static> {
     Call::PutUniform((ft as u64 - above) as u32, ft)
 }
 
-fn symbol(r: &mut Random, family: Family, state: &List) -> Call<'static> {
+pub fn symbol(r: &mut Random, family: Family, state: &List) -> Call<'static> {
     match family {
         Family::Small => match r.below(4) {
             0 => bit(r, 4),
@@ -137,7 +137,7 @@ fn symbol(r: &mut Random, family: Family, state: &List) -> Call<'static> {
 }
 
 /// The read of what a write wrote.
-pub fn reading(call: &Call<'static>) -> Call<'static> {
+pub fn reading<'a>(call: &Call<'a>) -> Call<'a> {
     match *call {
         Call::PutBit(_, logp) => Call::GetBit(logp),
         Call::PutTable(_, table, ftb) => Call::GetTable(table, ftb),
@@ -149,7 +149,7 @@ pub fn reading(call: &Call<'static>) -> Call<'static> {
 }
 
 /// A symbol's call at a bound of its domain or outside it, written or read.
-fn odd_symbol(r: &mut Random, writes: bool) -> Call<'static> {
+pub fn odd_symbol(r: &mut Random, writes: bool) -> Call<'static> {
     let (_, bad) = tables();
     let (fs, decay) = r.one_of(model_pairs());
     let call = match r.below(5) {

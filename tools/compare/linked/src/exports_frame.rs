@@ -1,4 +1,4 @@
-//! The port's exported calls that take or give what a frame has: allocation, energies, shapes, the stream record and the lister's answers. As in
+//! The port's exported calls that take or give what a frame has: allocation, energies, shapes, the stream record, the lister's answers and the round trip. As in
 //! exports.rs, nothing checks these declarations. Energies and shapes are lent by their bits, which have the size and the alignment of an f32.
 //! A call that the archive lacks leaves its function unused.
 #![allow(clippy::too_many_arguments, dead_code)]
@@ -43,6 +43,11 @@ mod celt {
         ) -> u32;
         pub fn celt_list(
             line: *const u8, line_n: usize, number: u32, out: *mut u8, out_n: usize, length: *mut usize, length_n: usize,
+        ) -> u32;
+        pub fn celt_round_trip(
+            bytes: *const u8, bytes_n: usize, symbols: *const u32, symbols_n: usize, tables: *const u8, tables_n: usize, c: i32, lm: i32, start: i32,
+            end: i32, trim: i32, total: i32, intensity: i32, dual: i32, previous: i32, bandwidth: i32, offsets: *const i32, offsets_n: usize,
+            caps: *const i32, caps_n: usize, outcome: *mut u64, outcome_n: usize,
         ) -> u32;
     }
 }
@@ -136,4 +141,14 @@ pub fn record_restore(line: &[u8], energies: &mut [u32], next: &mut [u64]) -> u3
 
 pub fn list(line: &[u8], number: u32, out: &mut [u8], length: &mut [usize]) -> u32 {
     unsafe { celt::celt_list(line.as_ptr(), line.len(), number, out.as_mut_ptr(), out.len(), length.as_mut_ptr(), length.len()) }
+}
+
+/// The numbers are C, LM, start, end, trim, total, intensity, dual stereo, previous band count and bandwidth.
+pub fn round_trip(bytes: &[u8], symbols: &[u32], tables: &[u8], n: &[i32; 10], offsets: &[i32], caps: &[i32], outcome: &mut [u64]) -> u32 {
+    unsafe {
+        celt::celt_round_trip(
+            bytes.as_ptr(), bytes.len(), symbols.as_ptr(), symbols.len(), tables.as_ptr(), tables.len(), n[0], n[1], n[2], n[3], n[4], n[5], n[6],
+            n[7], n[8], n[9], offsets.as_ptr(), offsets.len(), caps.as_ptr(), caps.len(), outcome.as_mut_ptr(), outcome.len(),
+        )
+    }
 }

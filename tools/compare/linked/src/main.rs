@@ -23,14 +23,14 @@ mod readers;
 mod record;
 #[cfg(has_record)]
 mod record_chance;
-#[cfg(has_record)]
-mod saved_lines;
 #[cfg(has_shapes)]
 mod shapes;
 mod shrink;
 mod small;
 mod steps;
 mod tally;
+#[cfg(has_trip)]
+mod trip;
 mod walk;
 
 use driver::random::Random;
@@ -81,7 +81,7 @@ const KINDS: &[Kind] = &[
         fixed: |run| walked(run, small::written).and_then(|_| walked(run, small::read)),
         chance: |_, _| Ok(()),
     },
-    Kind { name: "coder", share: 920, fixed: |_| Ok(()), chance: |run, calls| walks(run, calls, coder::sequence) },
+    Kind { name: "coder", share: 915, fixed: |_| Ok(()), chance: |run, calls| walks(run, calls, coder::sequence) },
     Kind { name: "pulses", share: 10, fixed: |run| walked(run, pulses::every), chance: |run, calls| walks(run, calls, pulses::sequence) },
     Kind { name: "lookups", share: 20, fixed: lookups::every, chance: lookups::chance },
     Kind { name: "allocation", share: 10, fixed: allocation::fixed, chance: allocation::chance },
@@ -93,6 +93,8 @@ const KINDS: &[Kind] = &[
     Kind { name: "record", share: 10, fixed: record_chance::fixed, chance: record_chance::chance },
     #[cfg(has_listing)]
     Kind { name: "listing", share: 5, fixed: listing::fixed, chance: listing::chance },
+    #[cfg(has_trip)]
+    Kind { name: "trip", share: 5, fixed: trip::fixed, chance: trip::chance },
 ];
 
 /// The kinds whose calls the archive lacks (build.rs looks).
@@ -105,6 +107,8 @@ const LACKED: &[&str] = &[
     "record",
     #[cfg(not(has_listing))]
     "listing",
+    #[cfg(not(has_trip))]
+    "trip",
 ];
 
 fn fail(text: &str) -> ! {

@@ -1,16 +1,16 @@
 //! The stream record's calls: fresh, order, frame, save, restore. The coarse decode inside a frame is both oracles'; the record's own rule and its lines are
-//! document 01's words, on the oracles' side, since no oracle has a record.
+//! document 01's words, on the oracles' side (driver's record.rs and saved_lines.rs), since no oracle has a record.
 use crate::both::{expected, Both};
 use crate::exports_frame as exports;
 use crate::floats::{shown_bits, tame, KEPT};
 use crate::guarded::Guarded;
 use crate::question::Question;
-use crate::saved_lines::{line_of, record_of, Record};
 use crate::shrink::shorter;
 use crate::tally::{Name, Tally, Why, NAMES};
 use crate::walk::hex;
 use driver::energy::{Asked, Given};
-use driver::refusals;
+use driver::record::{order, refusal, Record, FRESH};
+use driver::saved_lines::{self, line_of, record_of};
 use driver::states::{self, List};
 
 /// A call, with all that it is lent; the numbers at the end say by how much lists are longer than they must be.
@@ -25,22 +25,11 @@ pub enum Recorded {
     Restore(Vec<u8>, [i8; 2]),
 }
 
-/// The longest line takes so many bytes, and so many are asked for.
-pub const ROOM: usize = 390;
 const KEPT_WIDE: u64 = KEPT as u64;
 
 /// What a record holds before a call that gives one.
 pub fn before() -> Record {
     (std::array::from_fn(|at| 0x4000_0000 + at as u32), 77)
-}
-
-/// 10 below the next number, 11 above it.
-fn order(next: u64, number: u64) -> u32 {
-    match number.cmp(&next) {
-        std::cmp::Ordering::Less => 10,
-        std::cmp::Ordering::Equal => 0,
-        std::cmp::Ordering::Greater => 11,
-    }
 }
 
 /// A record's lists, lent to a call that changes them.
@@ -71,7 +60,7 @@ fn fresh(by: &[i8; 2]) -> Result<u32, String> {
     let old = before();
     let mut lent = Lent::new(&old.0, old.1, by);
     let no = exports::record_fresh(lent.energies.lent(), lent.next.lent());
-    let right = if *by == [0; 2] { (0, ([0; 42], 0)) } else { (2, old) };
+    let right = if *by == [0; 2] { (0, FRESH) } else { (2, old) };
     if no == right.0 && lent.holds(&right.1 .0, right.1 .1) {
         return Ok(no);
     }
@@ -79,8 +68,7 @@ fn fresh(by: &[i8; 2]) -> Result<u32, String> {
 }
 
 fn frame(tally: &mut Tally, number: u64, a: &Asked, list: &List, next: u64, by: &[i8; 3]) -> Result<u32, String> {
-    let known = number <= 4_294_967_294 && next <= 4_294_967_295;
-    let right = if *by == [0; 3] { a.refusal_of(list, known, order(next, number)) } else { 2 };
+    let right = if *by == [0; 3] { refusal(a, list, next, number) } else { 2 };
     let mut lent = Lent::new(&a.energies, next, &by[..2]);
     let mut state = Guarded::new(list, KEPT as i64, by[2]);
     let (e, n, l) = (lent.energies.lent(), lent.next.lent(), state.lent());
@@ -107,8 +95,7 @@ fn frame(tally: &mut Tally, number: u64, a: &Asked, list: &List, next: u64, by: 
 }
 
 fn save(record: &Record, room: usize, by: &[i8; 2]) -> Result<u32, String> {
-    let finite = record.0.iter().all(|&v| f32::from_bits(v).is_finite());
-    let expected = refusals::first(*by == [0; 2] && room >= ROOM, record.1 <= 4_294_967_295, finite, 0, true, true);
+    let expected = if *by == [0; 2] { saved_lines::refusal(record, room) } else { 2 };
     let old: Vec<u8> = (0..room).map(|at| at as u8).collect();
     let mut buf = Guarded::new(&old, 0xa5, 0);
     let mut length = Guarded::new(&[KEPT as usize], KEPT as usize, by[1]);

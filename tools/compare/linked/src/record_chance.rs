@@ -3,13 +3,15 @@
 use crate::damage::damage;
 use crate::question::asked;
 use crate::readers;
-use crate::record::{before, Recorded, ROOM};
-use crate::saved_lines::{line_of, Record};
+use crate::record::{before, Recorded};
 use crate::Run;
 use driver::energy::Asked;
 use driver::energy_sequences as sequences;
 use driver::random::Random;
+use driver::record::Record;
+use driver::saved_lines::{line_of, ROOM};
 use driver::states;
+use driver::stream_sequences::{damaged, number, quarters};
 
 /// Right lengths, or one of them wrong now and then.
 fn lengths<const N: usize>(r: &mut Random) -> [i8; N] {
@@ -18,48 +20,6 @@ fn lengths<const N: usize>(r: &mut Random) -> [i8; N] {
         by[r.below(N as u32) as usize] = r.one_of(&[-1, 1]);
     }
     by
-}
-
-/// A frame number or a next number: small, at its limit, past it, or any.
-fn number(r: &mut Random) -> u64 {
-    let word = r.within(0, u32::MAX) as u64;
-    let wide = word << 32 | r.within(0, u32::MAX) as u64;
-    r.one_of(&[0, 1, 2, word, 4_294_967_293, 4_294_967_294, 4_294_967_295, 4_294_967_296, u64::MAX, wide])
-}
-
-/// A line with some of its bytes or fields changed.
-fn damaged(r: &mut Random, line: &[u8]) -> Vec<u8> {
-    let mut line = line.to_vec();
-    for _ in 0..r.within(1, 2) {
-        let place = r.below(line.len() as u32) as usize;
-        let other = r.one_of(b"0123456789abcdefABF-+ \tEQ\r\n\x00\xff");
-        match r.below(6) {
-            0 => line.insert(place, other),
-            1 if line.len() > 1 => drop(line.remove(place)),
-            2 => line.truncate(place.max(1)),
-            3 => {
-                let mut fields: Vec<Vec<u8>> = line.split(|b| *b == b'\t').map(<[u8]>::to_vec).collect();
-                let at = r.below(fields.len() as u32) as usize;
-                let texts = ["", "-0", "00", "+1", "-1", "0", "7f800000", "ffc00000", "7f7fffff", "80000000", "32768", "-32769", "4294967296", "1e5"];
-                fields[at] = r.one_of(&texts).into();
-                line = fields.join(&b'\t');
-            }
-            _ => line[place] = other,
-        }
-    }
-    line
-}
-
-/// A line of 256ths.
-fn quarters(r: &mut Random) -> String {
-    let one = |r: &mut Random| {
-        let any = r.within(0, 65535) as i32 - 32768;
-        let small = r.below(2048) as i32 - 1024;
-        r.one_of(&[any, any, any, 0, -1, 32767, -32768, small])
-    };
-    let next = number(r).min(4_294_967_295);
-    let fields: String = (0..42).map(|_| format!("\t{}", one(r))).collect();
-    format!("Q\t{next}{fields}")
 }
 
 /// Numbers at every limit, lengths, document 01's example of an empty packet with intra, and the coarse decodes that energies.rs always asks.

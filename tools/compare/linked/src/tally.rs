@@ -47,6 +47,7 @@ exported! {
     RecordSave "celt_record_save",
     RecordRestore "celt_record_restore",
     List "celt_list",
+    RoundTrip "celt_round_trip",
 }
 
 /// Why a call was not compared, or with one oracle only.
@@ -81,6 +82,7 @@ pub struct Tally {
     kind: &'static str,
     counts: Vec<Count>,
     apart: BTreeMap<(&'static str, Why), (u64, String)>,
+    ends: BTreeMap<&'static str, u64>,
     /// All calls that were compared.
     pub calls: u64,
     /// How many there are to be, for whoever watches; 0 where that is not known.
@@ -93,7 +95,7 @@ impl Tally {
     pub fn new(kind: &'static str) -> Self {
         let now = Instant::now();
         let counts = vec![Count::default(); NAMES.len()];
-        Tally { kind, counts, apart: BTreeMap::new(), calls: 0, goal: 0, began: now, shown: now }
+        Tally { kind, counts, apart: BTreeMap::new(), ends: BTreeMap::new(), calls: 0, goal: 0, began: now, shown: now }
     }
 
     /// A call that was answered alike: no is its refusal, 0 for none.
@@ -113,6 +115,11 @@ impl Tally {
     /// A call that stands apart, for that reason; the first one of them is shown.
     pub fn apart(&mut self, name: Name, why: Why, shown: impl FnOnce() -> String) {
         self.apart.entry((NAMES[name as usize], why)).or_insert_with(|| (0, shown())).0 += 1;
+    }
+
+    /// How a round trip ended.
+    pub fn ended(&mut self, how: &'static str) {
+        *self.ends.entry(how).or_default() += 1;
     }
 
     #[cold]
@@ -142,6 +149,10 @@ impl Tally {
         }
         let apart = self.apart.iter().map(|((name, why), (n, first))| format!("    {name}: {} {}; the first: {first}", grouped(*n), why.text()));
         list.extend(apart);
+        let ends: Vec<String> = self.ends.iter().map(|(how, n)| format!("{} {how}", grouped(*n))).collect();
+        if !ends.is_empty() {
+            list.push(format!("    ended: {}", ends.join(", ")));
+        }
         list
     }
 }

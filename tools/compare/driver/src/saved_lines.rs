@@ -1,8 +1,16 @@
 //! Saved records by document 01's words, apart from the port: "Saved records are text lines".
-use driver::listing::strict;
+use crate::listing::strict;
+use crate::record::Record;
+use crate::refusals;
 
-/// A record: 42 energies by their bits, and its next number.
-pub type Record = ([u32; 42], u64);
+/// The longest line takes so many bytes, and so many are asked for.
+pub const ROOM: usize = 390;
+
+/// The number of the refusal of a save into so many bytes, 0 for none.
+pub fn refusal(record: &Record, room: usize) -> u32 {
+    let finite = record.0.iter().all(|&v| f32::from_bits(v).is_finite());
+    refusals::first(room >= ROOM, record.1 <= 4_294_967_295, finite, 0, true, true)
+}
 
 /// The line of a record.
 pub fn line_of(record: &Record) -> String {
