@@ -127,10 +127,8 @@ void try_enc_tell_frac(void) {
 /* ---- symbols */
 
 /* A table of the rule; where it is spoilt, any bytes. */
-static struct lent *lend_table(uint32_t ftb) {
-    uint8_t entries[256];
+size_t some_table(uint32_t ftb, uint8_t *entries) {
     size_t n = 0;
-    struct lent *l;
     uint64_t entry = below(UINT64_C(1) << (within(ftb, 1, 8) ? ftb : 8));
     while (entry > 0) {
         entries[n++] = (uint8_t)entry;
@@ -139,18 +137,23 @@ static struct lent *lend_table(uint32_t ftb) {
     entries[n++] = 0;
     if (spoilt())
         entries[below(n)] = (uint8_t)any();
-    l = lend("table", 1, spoilt() ? below(n + 1) : n);
+    return spoilt() ? below(n + 1) : n;
+}
+
+static struct lent *lend_table(uint32_t ftb) {
+    uint8_t entries[256];
+    struct lent *l = lend("table", 1, some_table(ftb, entries));
     memcpy(l->at, entries, l->count);
     return l;
 }
 
 /* A number of any size, and its bound. */
-static uint32_t some_bound(void) {
+uint32_t some_bound(void) {
     uint32_t ft = (uint32_t)any() >> below(31);
     return spoilt() ? (uint32_t)below(3) : ft < 2 ? 2 : one_in(16) ? UINT32_MAX : ft;
 }
 
-static uint32_t below_bound(uint32_t ft) {
+uint32_t below_bound(uint32_t ft) {
     return spoilt() ? (one_in(2) ? ft : (uint32_t)any()) : ft == 0 ? 0 : one_in(8) ? ft - 1 : (uint32_t)below(ft);
 }
 
@@ -254,7 +257,7 @@ void try_enc_bits(void) {
 
 /* ---- Laplace values */
 
-static void some_pair(uint32_t *fs, uint32_t *decay) {
+void some_pair(uint32_t *fs, uint32_t *decay) {
     pair_of((unsigned)below(168), fs, decay);
     if (spoilt())
         *fs = one_in(2) ? *fs + 1 : (uint32_t)any();
@@ -398,17 +401,23 @@ void try_pulses2bits(void) {
 
 /* ---- allocation */
 
-struct asked {
-    int32_t c, lm, start, end, trim, total;
-    struct lent *offsets, *caps, *pulses, *fine, *priorities, *shown;
-};
-
-static void ask(struct asked *q) {
+void ask(struct asked *q) {
     q->c = number(1, 2), q->lm = number(0, 3), q->start = number(0, 20);
     q->end = within(q->start, 0, 20) ? number(q->start + 1, 21) : number(1, 21);
     q->trim = number(0, 10), q->total = one_in(8) ? -(int32_t)below(10000) : one_in(2) ? number(0, 3000) : number(0, 81600);
     q->offsets = one_in(2) ? lend_numbers("offsets", 21, 0, 0) : lend_numbers("offsets", 21, 0, one_in(2) ? 600 : 81600);
     q->caps = lend_numbers("caps", 21, 0, one_in(2) ? 3000 : 32767);
+}
+
+void wish(const struct asked *q, struct wishes *h) {
+    h->dual = number(0, 1), h->previous = one_in(4) ? (int32_t)any() : number(0, 21), h->bandwidth = one_in(4) ? (int32_t)any() : number(0, 21);
+    h->intensity = bands_ok(q->c, q->start, q->end) ? number(q->start, q->end) : number(0, 21);
+    if (q->c == 1 && one_in(2))
+        h->intensity = (int32_t)any(), h->dual = (int32_t)any(); /* not looked at */
+}
+
+/* The lists for the shares. */
+static void lend_shares(struct asked *q) {
     q->pulses = lend_for_result("pulses", sizeof(int32_t), 21);
     q->fine = lend_for_result("fine", sizeof(int32_t), 21);
     q->priorities = lend_for_result("priorities", sizeof(int32_t), 21);
@@ -443,6 +452,7 @@ void try_compute_allocation_read(void) {
     struct asked q;
     uint32_t want, answer;
     ask(&q);
+    lend_shares(&q);
     want = refused_read(state, bytes, asked_sized(&q), alloc_ok(q.c, q.lm, q.start, q.end, q.trim, q.total), asked_entries(&q), 0);
     answer = CALL(compute_allocation_read, want, LENT(int64_t, state), LENT(const uint8_t, bytes), q.c, q.lm, q.start, q.end, q.trim, q.total,
                   LENT(const int32_t, q.offsets), LENT(const int32_t, q.caps), LENT(int32_t, q.pulses), LENT(int32_t, q.fine),
@@ -458,17 +468,16 @@ void try_compute_allocation_write(void) {
     struct coder *c = fresh_writer();
     struct lent *state = lend_state(c, 0, 1), *bytes = lend_bytes(c, 1);
     struct asked q;
-    int32_t intensity, dual = number(0, 1), previous = one_in(4) ? (int32_t)any() : number(0, 21), bandwidth = one_in(4) ? (int32_t)any() : number(0, 21);
+    struct wishes h;
     uint32_t want, answer;
     int stereo;
     ask(&q);
-    intensity = bands_ok(q.c, q.start, q.end) ? number(q.start, q.end) : number(0, 21);
-    if (q.c == 1 && one_in(2))
-        intensity = (int32_t)any(), dual = (int32_t)any(); /* not looked at */
-    stereo = q.c != 2 || (within(intensity, q.start, q.end) && within(dual, 0, 1));
+    wish(&q, &h);
+    lend_shares(&q);
+    stereo = q.c != 2 || (within(h.intensity, q.start, q.end) && within(h.dual, 0, 1));
     want = refused_write(state, bytes, asked_sized(&q), alloc_ok(q.c, q.lm, q.start, q.end, q.trim, q.total) && stereo, asked_entries(&q), 0);
-    answer = CALL(compute_allocation_write, want, LENT(int64_t, state), LENT(uint8_t, bytes), q.c, q.lm, q.start, q.end, q.trim, q.total, intensity,
-                  dual, previous, bandwidth, LENT(const int32_t, q.offsets), LENT(const int32_t, q.caps), LENT(int32_t, q.pulses),
+    answer = CALL(compute_allocation_write, want, LENT(int64_t, state), LENT(uint8_t, bytes), q.c, q.lm, q.start, q.end, q.trim, q.total, h.intensity,
+                  h.dual, h.previous, h.bandwidth, LENT(const int32_t, q.offsets), LENT(const int32_t, q.caps), LENT(int32_t, q.pulses),
                   LENT(int32_t, q.fine), LENT(int32_t, q.priorities), LENT(int32_t, q.shown));
     if (answer == 0) {
         look_at_writer(state, bytes->count, 0);

@@ -1,5 +1,5 @@
-/* Faults, to see that the driver finds them: celt_dec_bits with one of them, in one call of some hundred. Linked with --wrap=celt_dec_bits; FAULT says
- * which. */
+/* Faults, to see that the driver finds them: celt_dec_bits with one of them, in one call of some hundred, or celt_round_trip. Linked with --wrap of both;
+ * FAULT says which. */
 #include "calls.h"
 
 #include <stdlib.h>
@@ -54,8 +54,28 @@ uint32_t __wrap_celt_dec_bits(int64_t *state, size_t state_n, const uint8_t *pac
         if (answer == 0)
             value[0] = 1u << n;
         break;
+    case 13:
+    case 14: /* faults of the other call */
+        break;
     default:
         abort();
     }
+    return answer;
+}
+
+#define TRIP                                                                                                                                \
+    const uint8_t *bytes, size_t bytes_n, const uint32_t *symbols, size_t symbols_n, const uint8_t *tables, size_t tables_n, int32_t c, int32_t lm,  \
+        int32_t start, int32_t end, int32_t trim, int32_t total, int32_t intensity, int32_t dual, int32_t previous, int32_t bandwidth,       \
+        const int32_t *offsets, size_t offsets_n, const int32_t *caps, size_t caps_n, uint64_t *outcome, size_t outcome_n
+uint32_t __real_celt_round_trip(TRIP);
+uint32_t __wrap_celt_round_trip(TRIP);
+
+uint32_t __wrap_celt_round_trip(TRIP) {
+    uint32_t answer = __real_celt_round_trip(bytes, bytes_n, symbols, symbols_n, tables, tables_n, c, lm, start, end, trim, total, intensity, dual, previous,
+                                             bandwidth, offsets, offsets_n, caps, caps_n, outcome, outcome_n);
+    if (FAULT == 13 && answer == 0 && outcome[CELT_ENDED] == CELT_NOT_CLOSED) /* tells what was not closed as agreed */
+        outcome[CELT_ENDED] = CELT_AGREED;
+    if (FAULT == 14 && answer == 0 && outcome[CELT_WHICH] > 8) /* tells another place */
+        outcome[CELT_WHICH]--;
     return answer;
 }

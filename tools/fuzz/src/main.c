@@ -90,10 +90,10 @@ static void watch(void) {
     setitimer(ITIMER_VIRTUAL, &second, NULL);
 }
 
-/* Which call comes next. A pulse word takes a hundred times as long as a symbol, so these calls are made less often. */
+/* Which call comes next. A pulse word or a round trip takes a hundred times as long as a symbol, so these calls are made less often. */
 static enum which some_call(void) {
     enum which call = (enum which)below(CALLS);
-    int long_one = call == CALL_decode_pulses || call == CALL_encode_pulses || call == CALL_alg_unquant;
+    int long_one = call == CALL_decode_pulses || call == CALL_encode_pulses || call == CALL_alg_unquant || call == CALL_round_trip;
     return long_one && !one_in(4) ? (enum which)below(CALL_laplace_encode + 1) : call;
 }
 
@@ -115,6 +115,9 @@ static void report(void) {
         printf("\n");
     }
     printf("of the lister's %llu answers %llu are allocations\n", (unsigned long long)listings, (unsigned long long)allocations);
+    printf("round trips: %llu agreed, %llu not closed, refused by new %llu, a symbol %llu, the allocation %llu, close %llu\n", (unsigned long long)agreed,
+           (unsigned long long)not_closed, (unsigned long long)refused_by[0], (unsigned long long)refused_by[1], (unsigned long long)refused_by[2],
+           (unsigned long long)refused_by[3]);
     printf("%-28s %10llu %10llu %6.1f%%\n", "all", (unsigned long long)all, (unsigned long long)answered, 100.0 * (double)answered / (double)all);
 }
 
