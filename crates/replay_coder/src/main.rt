@@ -1,5 +1,5 @@
-// Replays requests of the range coder, of Laplace values and of pulse words, one a line, and answers each with a line; tools/compare makes them and
-// says their form. The numbers of a request stand in a list l.
+// Replays requests of the range coder, of Laplace values and of pulse words, one a line, and answers with a line each that has an answer; tools/compare
+// makes them and says their form. The numbers of a request stand in a list l.
 mod begin;
 mod symbols;
 mod values;

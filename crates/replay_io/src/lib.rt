@@ -1,4 +1,4 @@
-// Lines of numbers, read and written: what every program that replays recorded answers needs. A text that is made stands in the first n bytes
+// Lines of numbers, read and written, for the programs that replay recorded answers. A text that is made stands in the first n bytes
 // of a lent buffer. Every function answers every input.
 ghost use mathlib.Core.Path.{_≡_};
 ghost use mathlib.Core.List.{[], _∷_};

@@ -1,4 +1,4 @@
-// A stream record as a line of text, and back. Document 01, "The stream record".
+// A stream record as a line of text, and back. Document 01, "Energies, shapes and the stream record".
 //   E, the next number, 42 energies as eight lowercase hex digits of their bits; written and read.
 //   Q, the next number, 42 whole numbers in 256ths; read only.
 ghost use mathlib.Core.Path.{_≡_};

@@ -1,4 +1,5 @@
-// The stream record: the energies of the frame before, and the number of the frame that comes next. Document 01, "The stream record".
+// The stream record: the energies of the frame before, and the number of the frame that comes next. Document 01, "Energies, shapes and the stream
+// record".
 ghost use mathlib.Core.Path.{_≡_};
 ghost use Rattle.stream.specs.Frame.{fresh, orderOf, call, framed};
 use entdec::Reader;
