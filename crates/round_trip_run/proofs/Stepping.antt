@@ -1,6 +1,6 @@
 -- A lent symbol by its kind: what each public call answers is what the definition of one step says. Assumes nothing.
 use Prim.Native.Nat.{ℕ}
-use mathlib.Core.Path.{_≡_, refl, ap, _∙_}
+use mathlib.Core.Path.{_≡_, refl, sym, ap, _∙_}
 use mathlib.Core.List.{List}
 use lib.IntN.{ℤ}
 use lib.ListN.{drop, take}
@@ -74,25 +74,15 @@ put-plain : (r : Wrote) (v : ℕ) (l : List ℕ) → putIs (plainPut r v) l ≡ 
 put-plain (wrote.Next w) v l = refl
 put-plain (wrote.Refused n) v l = refl
 
+-- every kind but the Laplace values counts its value as it is: what is shown of a bit computes to the same for each of them
+put-same : (x : Put ℕ) → countPut (bit 0) x ≡ x
+put-same (put v w) = refl
+put-same (noPut n) = refl
+
 -- a call that writes its value as it is
-plain-is : (h : Shape) (v : ℕ) (w : Wr) {x : PutAnswer} {r : Wrote} {l : List ℕ} → after r l ≡ writing h v w → x ≡ plainPut r v → putIs x l ≡ putAs h v w
-plain-is h v w {x} {r} {l} e p = ap (λ (y : PutAnswer). putIs y l) p ∙ put-plain r v l ∙ ap (λ (a : After). putBy v (a .said) (a .bytes)) e
-
-put-bit : (k : ℕ) (x : Put ℕ) → countPut (bit k) x ≡ x
-put-bit k (put v w) = refl
-put-bit k (noPut n) = refl
-
-put-table : (t : List ℕ) (k : ℕ) (x : Put ℕ) → countPut (table t k) x ≡ x
-put-table t k (put v w) = refl
-put-table t k (noPut n) = refl
-
-put-uniform : (k : ℕ) (x : Put ℕ) → countPut (uniform k) x ≡ x
-put-uniform k (put v w) = refl
-put-uniform k (noPut n) = refl
-
-put-raw : (k : ℕ) (x : Put ℕ) → countPut (raw k) x ≡ x
-put-raw k (put v w) = refl
-put-raw k (noPut n) = refl
+plain-is : (h : Shape) (v : ℕ) (w : Wr) {x : PutAnswer} {r : Wrote} {l : List ℕ} → after r l ≡ writing h v w → x ≡ plainPut r v
+    → putIs x l ≡ countPut (bit 0) (putAs h v w)
+plain-is h v w {x} {r} {l} e p = ap (λ (y : PutAnswer). putIs y l) p ∙ put-plain r v l ∙ ap (λ (a : After). putBy v (a .said) (a .bytes)) e ∙ sym (put-same (putAs h v w))
 
 put-lap : (fs decay : ℕ) (r : LapWrote) (l : List ℕ) → putIs (lapPut r) l ≡ countPut (laplace fs decay) (putLap r l)
 put-lap fs decay (lapWrote.Next y) l = refl
@@ -102,12 +92,12 @@ module _ (g : Given) (w : Wr) {x : PutAnswer} {l : List ℕ} where
   pub wrote-uniform : {r : Wrote} → g .kind ≡ 2 → after r l ≡ writing (uniformShape (g .first)) (g .count) w → x ≡ plainPut r (g .count)
       → putIs x l ≡ putSymbol (laterOf g) w
   unfolding putSymbol writeCall
-  wrote-uniform h e p = rw (later-uniform g h, put-uniform) (plain-is (uniformShape (g .first)) (g .count) w e p)
+  wrote-uniform h e p = rw (later-uniform g h) (plain-is (uniformShape (g .first)) (g .count) w e p)
 
   pub wrote-raw : {r : Wrote} → (g .kind ≡ 2 → ⊥) → g .kind ≡ 3 → after r l ≡ writing (rawShape (g .first)) (g .count) w → x ≡ plainPut r (g .count)
       → putIs x l ≡ putSymbol (laterOf g) w
   unfolding putSymbol writeCall
-  wrote-raw q h e p = rw (later-raw g q h, put-raw) (plain-is (rawShape (g .first)) (g .count) w e p)
+  wrote-raw q h e p = rw (later-raw g q h) (plain-is (rawShape (g .first)) (g .count) w e p)
 
   pub wrote-laplace : {r : LapWrote} (z : ℤ) → (g .kind ≡ 2 → ⊥) → (g .kind ≡ 3 → ⊥) → z ≡ valueAt (g .count)
       → laplaceCalls.after r l ≡ laplaceCalls.writing (g .first) (g .second) z w → x ≡ lapPut r → putIs x l ≡ putSymbol (laterOf g) w
@@ -121,12 +111,12 @@ module _ (g : Given) (w : Wr) {x : PutAnswer} {l : List ℕ} where
     pub wrote-bit : {r : Wrote} → g .kind ≡ 0 → after r l ≡ writing (bitShape (g .first)) (g .count) w → x ≡ plainPut r (g .count)
         → putIs x l ≡ putSymbol (symbolOf g t) w
     unfolding putSymbol writeCall
-    wrote-bit h e p = rw (of-bit g t h, put-bit) (plain-is (bitShape (g .first)) (g .count) w e p)
+    wrote-bit h e p = rw (of-bit g t h) (plain-is (bitShape (g .first)) (g .count) w e p)
 
     pub wrote-table : {r : Wrote} {u : List ℕ} → (g .kind ≡ 0 → ⊥) → g .kind ≡ 1 → u ≡ take (g .third) (drop (g .second) t)
         → after r l ≡ writing (tableShape u (g .first)) (g .count) w → x ≡ plainPut r (g .count) → putIs x l ≡ putSymbol (symbolOf g t) w
     unfolding putSymbol writeCall
-    wrote-table {u = u} q h i e p = rw (of-table g t q h, put-table, ← i) (plain-is (tableShape u (g .first)) (g .count) w e p)
+    wrote-table {u = u} q h i e p = rw (of-table g t q h, ← i) (plain-is (tableShape u (g .first)) (g .count) w e p)
 
 -- ---- read
 
@@ -134,24 +124,13 @@ took-plain : (r : Read) → tookIs (plainTook r) ≡ tookBy r
 took-plain (read.Got y) = refl
 took-plain (read.Refused n) = refl
 
-read-is : (h : Shape) (s : List ℕ) (d : Reader) {x : TookAnswer} {r : Read} → r ≡ answer (refusalR h s d) (readSym h s d) → x ≡ plainTook r → tookIs x ≡ tookAs h s d
-read-is h s d {x} {r} e p = ap tookIs p ∙ took-plain r ∙ ap tookBy e
+took-same : (x : Took ℕ) → countTook (bit 0) x ≡ x
+took-same (took v d) = refl
+took-same (noTook n) = refl
 
-took-bit : (k : ℕ) (x : Took ℕ) → countTook (bit k) x ≡ x
-took-bit k (took v d) = refl
-took-bit k (noTook n) = refl
-
-took-table : (t : List ℕ) (k : ℕ) (x : Took ℕ) → countTook (table t k) x ≡ x
-took-table t k (took v d) = refl
-took-table t k (noTook n) = refl
-
-took-uniform : (k : ℕ) (x : Took ℕ) → countTook (uniform k) x ≡ x
-took-uniform k (took v d) = refl
-took-uniform k (noTook n) = refl
-
-took-raw : (k : ℕ) (x : Took ℕ) → countTook (raw k) x ≡ x
-took-raw k (took v d) = refl
-took-raw k (noTook n) = refl
+read-is : (h : Shape) (s : List ℕ) (d : Reader) {x : TookAnswer} {r : Read} → r ≡ answer (refusalR h s d) (readSym h s d) → x ≡ plainTook r
+    → tookIs x ≡ countTook (bit 0) (tookAs h s d)
+read-is h s d {x} {r} e p = ap tookIs p ∙ took-plain r ∙ ap tookBy e ∙ sym (took-same (tookAs h s d))
 
 took-lap : (fs decay : ℕ) (r : LapRead) → tookIs (lapTook r) ≡ countTook (laplace fs decay) (tookLap r)
 took-lap fs decay (lapRead.Got y) = refl
@@ -161,12 +140,12 @@ module _ (g : Given) (s : List ℕ) (d : Reader) {x : TookAnswer} where
   pub read-uniform : {r : Read} → g .kind ≡ 2 → r ≡ answer (refusalR (uniformShape (g .first)) s d) (readSym (uniformShape (g .first)) s d) → x ≡ plainTook r
       → tookIs x ≡ takeSymbol (laterOf g) s d
   unfolding takeSymbol readCall
-  read-uniform h e p = rw (later-uniform g h, took-uniform) (read-is (uniformShape (g .first)) s d e p)
+  read-uniform h e p = rw (later-uniform g h) (read-is (uniformShape (g .first)) s d e p)
 
   pub read-raw : {r : Read} → (g .kind ≡ 2 → ⊥) → g .kind ≡ 3 → r ≡ answer (refusalR (rawShape (g .first)) s d) (readSym (rawShape (g .first)) s d) → x ≡ plainTook r
       → tookIs x ≡ takeSymbol (laterOf g) s d
   unfolding takeSymbol readCall
-  read-raw q h e p = rw (later-raw g q h, took-raw) (read-is (rawShape (g .first)) s d e p)
+  read-raw q h e p = rw (later-raw g q h) (read-is (rawShape (g .first)) s d e p)
 
   pub read-laplace : {r : LapRead} → (g .kind ≡ 2 → ⊥) → (g .kind ≡ 3 → ⊥) → r ≡ laplaceCalls.reading (g .first) (g .second) s d → x ≡ lapTook r
       → tookIs x ≡ takeSymbol (laterOf g) s d
@@ -179,12 +158,12 @@ module _ (g : Given) (s : List ℕ) (d : Reader) {x : TookAnswer} where
     pub read-bit : {r : Read} → g .kind ≡ 0 → r ≡ answer (refusalR (bitShape (g .first)) s d) (readSym (bitShape (g .first)) s d) → x ≡ plainTook r
         → tookIs x ≡ takeSymbol (symbolOf g t) s d
     unfolding takeSymbol readCall
-    read-bit h e p = rw (of-bit g t h, took-bit) (read-is (bitShape (g .first)) s d e p)
+    read-bit h e p = rw (of-bit g t h) (read-is (bitShape (g .first)) s d e p)
 
     pub read-table : {r : Read} {u : List ℕ} → (g .kind ≡ 0 → ⊥) → g .kind ≡ 1 → u ≡ take (g .third) (drop (g .second) t)
         → r ≡ answer (refusalR (tableShape u (g .first)) s d) (readSym (tableShape u (g .first)) s d) → x ≡ plainTook r → tookIs x ≡ takeSymbol (symbolOf g t) s d
     unfolding takeSymbol readCall
-    read-table {u = u} q h i e p = rw (of-table g t q h, took-table, ← i) (read-is (tableShape u (g .first)) s d e p)
+    read-table {u = u} q h i e p = rw (of-table g t q h, ← i) (read-is (tableShape u (g .first)) s d e p)
 
 -- ---- the Laplace answers
 
