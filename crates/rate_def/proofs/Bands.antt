@@ -14,6 +14,7 @@ use Rattle.modes.proofs.EdgeRule.{edge-le, edge-lt}
 use Rattle.modes.specs.Edges.{width}
 use Rattle.rate_def.specs.Asked.{Band, In}
 use Rattle.rate_def.specs.Alloc.{carried, splitBand, spread}
+use Rattle.rate_def.specs.Ledger.{price}
 use Rattle.rate_def.specs.Split.{extra, fineOf, prioOf, spill, splitOf, wanted}
 use Rattle.rate_def.specs.Skips.{widthUpTo}
 
@@ -49,10 +50,6 @@ module _ (a : In) (bits : ℕ → ℕ) (coded left intensity : ℕ) (dual : Bool
       let e : a .start + (coded - a .start) ≡ coded = omega arith in
       let p = before-pos a coded h g in
       omega (arith, rw e at (spread-part (coded - a .start) (omega arith)), div-add-mod' left (widthUpTo a coded), mod-lt left p)
-
--- a band's price
-abbrev pub price : ℕ → Band → ℕ
-price C b = b .pulses + 8 * C * b .fine
 
 -- a split of x bits: none is lost, and what is handed on is less than a bit for each channel unless the band has all its fine bits
 pub record Fair (C x : ℕ) (b : Band) : Type 0 where

@@ -8,6 +8,8 @@ pub mod Within
 pub mod Bands
 pub mod Looks
 pub mod Budget
+pub mod Highest
+pub mod Rising
 pub mod SignedForms
 pub mod Loops
 pub mod Same

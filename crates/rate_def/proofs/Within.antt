@@ -62,7 +62,7 @@ module _ (a : In) where
   unfolding lowBits trimmed
   low-zero j h = rw (vector-zero j h)
 
-  nothing-within : InOk a → over a (lowBits a 0) ≡ false
+  pub nothing-within : InOk a → over a (lowBits a 0) ≡ false
   unfolding over
   nothing-within o =
       le-ltb (budget a) (sumOf (takes a (lowBits a 0)) (a .start) (a .end - a .start))
@@ -72,7 +72,7 @@ module _ (a : In) where
         sum-zero (lowBits a 0) (a .end - a .start) (a .start) (λ i p q. low-zero i (omega arith)),
       ))
 
-  interpolated-zero : (v : ℕ) → interpolated a v 0 ≡ lowBits a v
+  pub interpolated-zero : (v : ℕ) → interpolated a v 0 ≡ lowBits a v
   unfolding interpolated
   interpolated-zero v = fun-ext (λ j. omega arith)
 

@@ -3,7 +3,11 @@ use Prim.Native.Nat.{ℕ, _+_, _-_, _*_}
 use mathlib.Core.Bool.{Bool, cond}
 use mathlib.Core.List.{List, [], _∷_}
 use Rattle.laws.specs.Places.{sumOf}
-use Rattle.rate_def.specs.Asked.{In, Out}
+use Rattle.rate_def.specs.Asked.{Band, In, Out}
+
+-- what a band takes: its pulses, and a bit for each channel for each of its fine bits
+abbrev pub price : ℕ → Band → ℕ
+price C b = b .pulses + 8 * C * b .fine
 
 -- how many of the skip flags said go on
 unfoldable pub goOns : List Bool → ℕ
@@ -14,5 +18,5 @@ goOns (f ∷ fs) = cond f 0 1 + goOns fs
 -- said stop, for intensity at its last figure, for dual stereo where it was coded
 unfoldable pub spent : In → Out → ℕ
 spent a o =
-    sumOf (λ j. o .band j .pulses + 8 * a .C * o .band j .fine) (a .start) (a .end - a .start) + o .balance
+    sumOf (λ j. price (a .C) (o .band j)) (a .start) (a .end - a .start) + o .balance
     + 8 * goOns (o .flags) + cond (o .stopped) 8 0 + o .reserve + cond (o .dualCoded) 8 0

@@ -11,4 +11,5 @@ pub mod Written
 pub mod Ledger
 pub mod Domain
 pub mod Caps
+pub mod Highest
 pub mod Signed

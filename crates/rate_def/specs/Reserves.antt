@@ -6,7 +6,8 @@ use Rattle.modes.specs.Fractions.{fraction}
 use Rattle.rate_def.specs.Asked.{In}
 
 module _ (a : In) where
-  -- one bit for each channel: the least that a band is coded with
+  -- one bit for each channel, the floor: no threshold is less, a band above the highest that has its threshold counts for this or for nothing,
+  -- and a band that is skipped keeps this or nothing. A band can be coded with less
   abbrev pub allocFloor : ℕ
   allocFloor = 8 * a .C
 

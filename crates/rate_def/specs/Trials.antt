@@ -1,4 +1,5 @@
--- Each band's bits before skipping: the point between two allocation vectors that the budget pays for, found by halving.
+-- Each band's bits before skipping: a point between two allocation vectors that the budget pays for, found by halving. What halving finds stands
+-- in Highest.
 use Prim.Native.Nat.{ℕ, zero, suc, _+_, _-_, _/_, min}
 use mathlib.Core.Bool.{Bool, false, cond, _||_}
 use lib.Dec.{leb, ltb}
@@ -35,11 +36,13 @@ module _ (a : In) where
   unfoldable pub over : (ℕ → ℕ) → Bool
   over x = ltb (budget a) (sumOf (takes x) (a .start) (a .end - a .start))
 
-  -- the highest vector within the budget, with the number of trials
+  -- a vector within the budget whose next is over it, or is the 11th, which is not tried; with the number of trials. It is the highest within
+  -- the budget where no cap is below the floor (Highest)
   unfoldable pub vector : ℕ × ℕ
   vector = halve (λ v. over (lowBits a v)) 4 0 11
 
-  -- how many 64ths of the way from vector v to the next are within the budget
+  -- how many 64ths of the way from vector v to the next, where v is within the budget: they are within it too, and one more is over it, or is the
+  -- 64th, which is not tried. It is the highest number of 0..63 within the budget where no cap is below the floor (Highest)
   unfoldable pub sixtyfourths : ℕ → ℕ
   sixtyfourths v = halve (λ q. over (interpolated a v q)) 6 0 64 .0
 

@@ -11,7 +11,7 @@ pub struct Top {
     pub sum: u32,
 }
 
-// The highest vector within the budget, and how many were tried.
+// The vector that halving finds, within the budget, and how many were tried.
 pub struct Choice {
     pub v: usize,
     pub trials: u32,

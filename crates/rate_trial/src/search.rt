@@ -1,4 +1,5 @@
-// Both searches: the highest figure that the budget, `most`, pays for. lo is within it, hi is taken to be over it.
+// Both searches, by halving: a figure that the budget, `most`, pays for, and whose next it does not, or which is the last that is tried. It is the
+// highest that the budget pays for where no cap is below the floor (rate_def, Highest). lo is within the budget, hi is taken to be over it.
 use crate::Choice;
 use crate::trial;
 use rate_bands::Frame;
@@ -10,7 +11,7 @@ ghost use Rattle.rate_def.specs.Trials.{vector, sixtyfourths};
 ghost use Rattle.rate_bands.specs.Frame.{bare, inOf, FrameIn, ListsIn};
 ghost use Rattle.rate_bands.specs.Tilts.{Neighbours, Thresholds, Tilts};
 
-// The highest vector within the budget, with the number of trials.
+// The vector that halving finds, of 0..10, with the number of trials.
 pub fn vector_of(
     f: Frame,
     offs: &[u32; 21],
@@ -47,7 +48,7 @@ pub fn vector_of(
     }
 }
 
-// How many 64ths of the way from vector v, whose bits are `lows`, to the next are within the budget.
+// How many 64ths, of 0..63, of the way from vector v, whose bits are `lows`, to the next halving finds.
 pub fn sixtyfourths_of(
     f: Frame,
     offs: &[u32; 21],
