@@ -1,25 +1,24 @@
 -- The steps put together, whoever answers: what the code computed at each is the definition's. Assumes nothing.
-use Prim.Native.Nat.{ℕ, zero, suc, _+_, _-_, _≤_, _<_}
+use Prim.Native.Nat.{ℕ, suc, _-_, _≤_, _<_}
 use mathlib.Core.Bool.{Bool, true, false, cond}
 use mathlib.Core.List.{List, []}
 use mathlib.Core.Path.{_≡_, refl, ap, sym, _∙_}
 use native.Mathlib.Omega.{arith}
-use lib.Dec.{eqb}
 use lib.IntN.{ℤ, pos}
 use lib.ListN.{getD, length}
 use Rattle.laws.specs.Lists.{fill}
 use Rattle.laws.specs.Places.{sumOf}
 use Rattle.laws.proofs.Lists.{fill-same}
 use Rattle.laws.proofs.Sums.{sum-same}
-use Rattle.laws.proofs.Tests.{cond-by}
 use Rattle.rate_def.specs.Asked.{Ask, Band, In, Out}
 use Rattle.rate_def.specs.Alloc.{alloc, allocFrom, askDual, askIntensity, bandOf, carried, dualAsked, finish, firstRound, leftOf}
 use Rattle.rate_def.specs.Domain.{InOk}
 use Rattle.rate_def.specs.Reserves.{dualReserve, intensityReserve, skipReserve, stereoFits}
-use Rattle.rate_def.specs.Skips.{Round, Skipped, lastBoost, skip, skipStart}
+use Rattle.rate_def.specs.Skips.{Round, Skipped, skip, skipStart}
 use Rattle.rate_def.specs.Trials.{bitsOf}
 use Rattle.rate_def.specs.Ledger.{spent}
 use Rattle.rate_def.proofs.Budget.{closes, coded-in, first-le, shared-le, the-after}
+use Rattle.rate_def.proofs.Ending.{low-in}
 use Rattle.rate_def.proofs.Same as same
 use Rattle.rate_def.proofs.Within.{intensity-is}
 use Rattle.rate_bands.specs.Frame.{FrameIn, ListsIn, bare, inOf}
@@ -33,21 +32,6 @@ use Rattle.rate_skip.proofs.Anyone.{dual-same, intensity-same, skip-same}
 use Rattle.rate.specs.declared.Begun.{Begun}
 use Rattle.rate.specs.Begun.{BeginsAt}
 use Rattle.rate.specs.Answer.{listed}
-
--- the highest boosted band is one of the bands
-module _ (a : In) where
-  boost-in : (n : ℕ) → 0 < n → (a .start ≤ lastBoost a n) × (lastBoost a n < a .start + n)
-  unfolding lastBoost
-  boost-in zero h = absurd (omega arith)
-  boost-in (suc zero) h =
-      cond-by (λ (x : ℕ). (a .start ≤ x) × (x < a .start + 1)) (eqb (a .offset (a .start + 0)) 0) (λ e. omega arith) (λ e. omega arith)
-  boost-in (suc (suc n)) h =
-      let b = boost-in (suc n) (omega arith) in
-      cond-by (λ (x : ℕ). (a .start ≤ x) × (x < a .start + suc (suc n))) (eqb (a .offset (a .start + suc n)) 0) (λ e. omega arith) (λ e. omega arith)
-
-  pub low-in : a .start < a .end → (a .start ≤ skipStart a) × (skipStart a < a .end)
-  unfolding skipStart
-  low-in h = let b = boost-in (a .end - a .start) (omega arith) in omega arith
 
 -- the bits before skipping stand in a list, over the bands of the frame
 pub record Started (f : Frame) (offs caps bits : List ℕ) (g : Begun) : Type 0 where

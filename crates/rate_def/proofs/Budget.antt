@@ -6,7 +6,7 @@ use mathlib.Core.Logic.{_⊎_, inl, inr, ⊎-elim}
 use mathlib.Core.Path.{_≡_, refl, _∙_, ap, subst}
 use native.Mathlib.Nat.{div-self, zero-div}
 use native.Mathlib.Omega.{arith}
-use lib.Dec.{ltb, eqb}
+use lib.Dec.{ltb}
 use lib.ListN.{getD, length}
 use borrow.Author.Tests.{lt-ltb, le-ltb, ltb-true}
 use Rattle.laws.proofs.Tests.{cond-by, cond-le}
@@ -14,7 +14,7 @@ use Rattle.laws.proofs.Sums.{sum-append, sum-same}
 use Rattle.laws.specs.Places.{sumOf}
 use Rattle.rate_def.specs.Asked.{Ask, Band, In}
 use Rattle.rate_def.specs.Domain.{InOk}
-use Rattle.rate_def.specs.Skips.{Skipped, lastBoost, skip, skipStart}
+use Rattle.rate_def.specs.Skips.{Skipped, skip, skipStart}
 use Rattle.rate_def.specs.Alloc.{alloc, allocFrom, askIntensity, bandOf, carried, dualAsked, finish, firstRound, leftOf, skipped, splitBand}
 use Rattle.rate_def.specs.Reserves.{allocFloor, budget, dualReserve, intensityReserve, skipReserve}
 use Rattle.rate_def.specs.Trials.{bitsOf}
@@ -23,6 +23,7 @@ use Rattle.rate_def.proofs.Rounds.{After, Floors, Sound, holds, skip-go
 use Rattle.rate_def.proofs.Within.{dual-is, first-within, intensity-is, reserved, skip-is}
 use Rattle.rate_def.proofs.Bands.{priced, split-rest, split-sum, spread-sum}
 use Rattle.rate_def.proofs.Looks.{vector-trials}
+use Rattle.rate_def.proofs.Ending.{low-in}
 
 -- a list's sum, over the bands from c
 listed : (l : List ℕ) (c : ℕ) → sumOf (λ j. getD l (j - c) 0) c (length l) ≡ sumList l
@@ -36,21 +37,11 @@ listed (x ∷ l) c =
     same x l c i h g = let e : i - c ≡ suc (i - suc c) = omega arith in rw e
 
 module _ (a : In) (o : InOk a) where
-  -- no band below the first is skipped
-  boost-low : (n : ℕ) → a .start ≤ lastBoost a n
-  unfolding lastBoost
-  boost-low zero = omega arith
-  boost-low (suc n) = go (eqb (a .offset (a .start + n)) 0) (boost-low n)
-    where
-      go : (b : Bool) → a .start ≤ lastBoost a n → a .start ≤ cond b (lastBoost a n) (a .start + n)
-      go true h = h
-      go false h = omega arith
-
   module _ (bits : ℕ → ℕ) where
     pub first-sound : Sound a (a .end - suc (skipStart a)) (firstRound a bits)
-    unfolding firstRound skipStart
+    unfolding firstRound
     first-sound =
-        record { above = omega (arith, o .start-lt, boost-low (a .end - a .start)); below = o .end-le; reserve-is = intensity-is a }
+        record { above = omega (arith, o .start-lt, low-in a (o .start-lt)); below = o .end-le; reserve-is = intensity-is a }
 
     pub first-holds : sumOf bits (a .start) (a .end - a .start) ≤ budget a → holds a bits (firstRound a bits) ≡ budget a + intensityReserve a
     unfolding firstRound
@@ -61,7 +52,7 @@ module _ (a : In) (o : InOk a) where
     skipped-price x (inl e) = let p : 0 < 8 * a .C = omega (arith, o .C-low) in rw e (rw (div-self p) (omega arith))
     skipped-price x (inr e) = rw e (rw zero-div (omega arith))
 
-    floors-at : (l : List ℕ) → Floors a l → (i : ℕ) → (getD l i 0 ≡ allocFloor a) ⊎ (getD l i 0 ≡ 0)
+    pub floors-at : (l : List ℕ) → Floors a l → (i : ℕ) → (getD l i 0 ≡ allocFloor a) ⊎ (getD l i 0 ≡ 0)
     floors-at [] f i = inr refl
     floors-at (x ∷ l) f zero = f .0
     floors-at (x ∷ l) f (suc i) = floors-at l (f .1) i
@@ -109,7 +100,7 @@ module _ (a : In) (o : InOk a) where
         go false e z = omega arith
 
     module _ (k : Skipped) (h : sumOf bits (a .start) (a .end - a .start) ≤ budget a) (w : After a bits (firstRound a bits) k) where
-      kept-all : k .last .coded + length (k .last .kept) ≡ a .end
+      pub kept-all : k .last .coded + length (k .last .kept) ≡ a .end
       unfolding firstRound
       kept-all = omega (arith, w .bands)
 

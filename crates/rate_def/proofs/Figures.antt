@@ -20,6 +20,7 @@ use Rattle.rate_def.specs.Split.{withOffset, wanted, extra, spill, fineO
 use Rattle.rate_def.specs.Alloc.{skipped, degrees, spread, splitBand, carried, bandOf, firstRound, dualAsked, leftOf, finish, askIntensity, askDual, allocFrom, alloc}
 use Rattle.rate_def.specs.Answers.{given, allocGiven}
 use Rattle.rate_def.specs.Caps.{capOf}
+use Rattle.rate_def.specs.Laws.{OverTheCap}
 
 -- band 0's pulses, fine bits and priority, and the balance
 abbrev shown : Out → ℕ × ℕ × ℕ × ℕ
@@ -37,3 +38,8 @@ pub known
     × (map (λ (q : ℤ × ℕ). asked 2 (q .0) (q .1)) ((pos 7, 0) ∷ (pos 40, 0) ∷ (pos 40, 1) ∷ []) ≡ (7, 0, 1, 0) ∷ (16, 1, 1, 0) ∷ (16, 0, 0, 8) ∷ [])
 unfolding edges edge width vectors step fractions fraction logWidths logWidth caps capEntry sumOf skipReserve stereoFits intensityReserve dualReserve budget threshold slope trimUp trimDown trimmed vectorBits lowBits highBits interpolated halve reached floored takes over vector sixtyfourths keeps bitsOf lastBoost skipStart widthUpTo reserveNext topBits asks paid keep dropped flagOf skip withOffset wanted extra spill fineOf prioOf splitOf skipped degrees spread splitBand carried bandOf firstRound dualAsked leftOf finish askIntensity askDual allocFrom alloc given allocGiven capOf asked
 known = (refl, refl)
+
+-- a band whose pulses and fine bits take more than its cap
+pub over-the-cap : OverTheCap
+unfolding edges edge width vectors step fractions fraction logWidths logWidth caps capEntry sumOf skipReserve stereoFits intensityReserve dualReserve budget threshold slope trimUp trimDown trimmed vectorBits lowBits highBits interpolated halve reached floored takes over vector sixtyfourths keeps bitsOf lastBoost skipStart widthUpTo reserveNext topBits asks paid keep dropped flagOf skip withOffset wanted extra spill fineOf prioOf splitOf skipped degrees spread splitBand carried bandOf firstRound dualAsked leftOf finish askIntensity askDual allocFrom alloc given allocGiven capOf
+over-the-cap = (refl, refl, refl)

@@ -6,7 +6,6 @@ use mathlib.Core.Path.{_≡_, refl, sym, ap, _∙_}
 use native.Mathlib.Nat.{pow-succ'}
 use native.Mathlib.Omega.{arith}
 use Rattle.laws.proofs.Tests.{by-le, split-on}
-use Rattle.rate_def.specs.Asked.{In}
 use Rattle.rate_def.specs.Highest.{EndsAt, HalvingEnds, Highest}
 use Rattle.rate_def.specs.Trials.{halve}
 use Rattle.rate_def.proofs.Loops.{halve-done, halve-over, halve-under}

@@ -1,5 +1,5 @@
--- The laws of the allocation. Those to cite: Budget (closes, rest, looks, coded-in, answers-in), Follow (follow, replay), Trace (trace),
--- SignedForms, Figures; for code Loops, Same, Bounds.
+-- The laws of the allocation. Those to cite: Laws (laws), Rising (vector-highest, sixtyfourths-highest), Budget (closes, rest, looks, coded-in,
+-- answers-in), Follow (follow, replay), Trace (trace), SignedForms, Figures; for code Loops, Same, Bounds.
 pub mod Steps
 pub mod Follow
 pub mod Trace
@@ -7,9 +7,11 @@ pub mod Rounds
 pub mod Within
 pub mod Bands
 pub mod Looks
+pub mod Ending
 pub mod Budget
 pub mod Highest
 pub mod Rising
+pub mod Laws
 pub mod SignedForms
 pub mod Loops
 pub mod Same

@@ -1,15 +1,15 @@
 -- A trial of more bits takes more where no cap is below the floor, and bits rise with the vector and with the 64ths: both searches of Trials
 -- find the highest. Assumes nothing.
-use Prim.Native.Nat.{ℕ, zero, suc, _+_, _-_, _*_, _/_, _^_, _≤_, _<_, min}
+use Prim.Native.Nat.{ℕ, zero, suc, _+_, _-_, _*_, _^_, _≤_, _<_, min}
 use mathlib.Core.Bool.{Bool, true, false, cond, _||_, false≢true}
-use mathlib.Core.Logic.{inl, inr, ⊎-elim}
-use mathlib.Core.Path.{_≡_, refl, sym, ap, _∙_}
+use mathlib.Core.Logic.{⊎-elim}
+use mathlib.Core.Path.{_≡_, refl, ap, _∙_}
 use native.Mathlib.Nat.{mul-le-mul-left, mul-le-mul-right, mul-le-mul, le-trans}
 use native.Mathlib.Omega.{arith}
-use lib.Dec.{leb, ltb, eqb}
+use lib.Dec.{leb, eqb}
 use lib.Pow.{pow-mono}
-use borrow.Author.Tests.{le-leb, leb-true, leb-false, ltb-true, lt-ltb, eqb-true, eqb-false}
-use Rattle.laws.proofs.Tests.{or-parts, split-on, cond-le}
+use borrow.Author.Tests.{le-leb, leb-true, ltb-true, lt-ltb, eqb-true, eqb-false}
+use Rattle.laws.proofs.Tests.{or-parts, cond-le}
 use Rattle.laws.proofs.Sums.{sum-mono}
 use Rattle.laws.specs.Places.{sumOf}
 use Rattle.modes.proofs.CapRule.{cap-least}
@@ -21,7 +21,6 @@ use Rattle.modes.specs.Fractions.{fraction, fractions}
 use Rattle.modes.specs.Vectors.{step, vectors}
 use Rattle.rate_def.specs.Asked.{In}
 use Rattle.rate_def.specs.Caps.{capOf}
-use Rattle.rate_def.specs.Domain.{InOk}
 use Rattle.rate_def.specs.Highest.{CapsHaveFloor, DecoderCapsHaveFloor, SixtyfourthsEnd, SixtyfourthsHighest, VectorEnds, NotHighest, VectorHighest, overBetween, overVector}
 use Rattle.rate_def.specs.Reserves.{allocFloor, budget, dualReserve, intensityReserve, skipReserve, stereoFits}
 use Rattle.rate_def.specs.Trials.{floored, halve, over, reached, sixtyfourths, takes, vector}

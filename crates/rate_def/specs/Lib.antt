@@ -12,4 +12,5 @@ pub mod Ledger
 pub mod Domain
 pub mod Caps
 pub mod Highest
+pub mod Laws
 pub mod Signed
