@@ -33,7 +33,7 @@ use Rattle.round_trip.specs.Calls.{Symbol, Tells, tellsR, tellsW}
 use Rattle.round_trip.specs.Rows.{writeAll, readAll, kinds}
 use Rattle.round_trip.specs.Rows.Wrote.{wrote}
 use Rattle.round_trip.specs.Rows.Got.{got}
-use Rattle.round_trip.specs.Demand.{Agreed, RowAgreed, RowSent, SameIn, SameSizes, Sent}
+use Rattle.round_trip.specs.Demand.{Agreed, CodedOnce, Demand3, Row3, SameIn, SameSizes, Sent, SentAlike, cameTo}
 use Rattle.round_trip.proofs.Symbols.{same-tells, opens}
 use Rattle.round_trip.proofs.RowsBack.{syms, write-append, fine-append, meets-first, all-done, rule-before, row-back}
 use Rattle.round_trip.proofs.Allocation.{allocSyms, reads-on, write-syms, write-fine}
@@ -44,6 +44,7 @@ use Rattle.round_trip.proofs.Gates.{new-writer, new-reader, closed, All
 -- w is the new writer, v the writer after the row, s the bytes that are left when all is closed, d their reader after the row
 record Whole (ys : List Symbol) (more : List Sym) (n : ℕ) (w v : Wr) (zs : List Symbol) (ts : List Tells) (s : List ℕ) (d : Reader) : Type 0 where
   size : length s ≡ n
+  meets : Meets s (w .st) (freshReader s)
   begins : tellsR (freshReader s) ≡ tellsW (w .st)
   reads : readAll (kinds ys) s (freshReader s) ≡ got d zs ts
   goes : Along more s v d
@@ -61,11 +62,13 @@ whole-at bytes ys more v u zs ts b e r f p ok =
     let k : Back (syms ys ++ more) (length bytes) (wr (freshWriter (length bytes)) bytes) (closeW u .bytes)
     = rw p at (along bytes (syms ys ++ more) b (fine-append (syms ys) more (all-done ys w v zs ts e .fines) f) (rw p ok)) in
     let s = closeW u .bytes in
-    let x = row-back ys more s (freshReader s) w v zs ts e r (k .goes) in (
+    let x = row-back ys more s (freshReader s) w v zs ts e r (k .goes) in
+    let m = meets-first (syms ys ++ more) s w (freshReader s) (k .goes) in (
       x .last,
       record {
         size = k .size;
-        begins = same-tells s (w .st) (freshReader s) (meets-first (syms ys ++ more) s w (freshReader s) (k .goes)) (rule-before ys w v zs ts e r);
+        meets = m;
+        begins = same-tells s (w .st) (freshReader s) m (rule-before ys w v zs ts e r);
         reads = x .reads;
         goes = x .goes;
       },
@@ -126,6 +129,7 @@ module _ (bytes : List ℕ) (ys : List Symbol) (q : Numbers) (offsets caps : Lis
       record {
         first = freshReader (k .packet);
         new = new-reader (k .packet) (omega (arith, x .size));
+        storage = x .meets .storage;
         begins = x .begins;
         row = d;
         reads = x .reads;
@@ -141,6 +145,7 @@ module _ (bytes : List ℕ) (ys : List Symbol) (q : Numbers) (offsets caps : Lis
         pulses = rw (g .lists) (same-in a o (λ b. b .pulses) (m .pulses) (l .pulses) (z .pulses ∙ p .pulses-is) (p .pulses-is) (g .asked .end-le));
         fine = rw (g .lists) (same-in a o (λ b. b .fine) (m .fine) (l .fine) (z .fine ∙ p .fine-is) (p .fine-is) (g .asked .end-le));
         priorities = rw (g .lists) (same-in a o (λ b. b .prio) (m .priorities) (l .priorities) (z .priorities ∙ p .priorities-is) (p .priorities-is) (g .asked .end-le));
+        storage-last = t .storage;
         tells = same-tells (k .packet) (k .shares .next) e t c;
         error = t .error;
         out = o;
@@ -152,8 +157,19 @@ module _ (bytes : List ℕ) (ys : List Symbol) (q : Numbers) (offsets caps : Lis
         lists-read = refl;
       }
 
-  pub demand3 : Bytes bytes → SameSizes l m → Agreed bytes ys q offsets caps h l k m
-  demand3 b z =
+  -- the encoder's symbols read back from the closed bytes: the reader d after the row, and e after the allocation, to whose result it comes
+  record Read (d e : Reader) : Type 0 where
+    allotted-by : Allotted q h offsets caps (k .row) l (k .shares) (k .lists) (k .filled)
+    short : length bytes ≤ 1275
+    writer : after-it ≡ run .1
+    rule : writerOk (k .shares .next) ≡ true
+    whole-of : Whole ys (allocSyms a (run .0)) (length bytes) (wr (k .first) bytes) (k .row) (k .zs) (k .ts) (k .packet) d
+    meets : Meets (k .packet) (k .row .st) d
+    allots : readAlloc a (k .packet) d ≡ (run .0, e)
+    meets-last : Meets (k .packet) (k .shares .next) e
+
+  read-out : Bytes bytes → (d : Reader) × (e : Reader) × Read d e
+  read-out b =
       let n = new-writer (length bytes) (k .first) (k .new) in
       let g = allotted q h offsets caps (k .row) l (k .shares) (k .lists) (k .filled) (k .allots) in
       let c = closed after-it (k .last) (k .packet) (k .closes) in
@@ -163,13 +179,75 @@ module _ (bytes : List ℕ) (ys : List Symbol) (q : Numbers) (offsets caps : Lis
       let y = write-syms a (g .asked) (h .previous) (h .bandwidth) i e (k .row) in
       let x = whole bytes ys (allocSyms a (run .0)) (k .first) (k .row) after-it (k .zs) (k .ts) (k .packet) b (n .1) (k .writes) (g .rule)
       (write-fine a (g .asked) (h .previous) (h .bandwidth) i e (k .row)) (sym y ∙ sym v) (c .bytes) (ap (λ (u : Writer). u .sink .error) (sym (c .state)) ∙ k .fits) in
-      let r = reads-on (k .packet) a (run .0) (k .row) (x .0) (x .1 .goes) in
-      agreed z (n .0) g v (c .rule) (x .0) (r .last) (x .1) (meets-first (allocSyms a (run .0)) (k .packet) (k .row) (x .0) (x .1 .goes))
-      (read-follows a (h .previous) (h .bandwidth) i e (k .row) (k .packet) (x .0) (r .last) (r .agrees))
-      (subst (λ (u : Wr). Meets (k .packet) (u .st) (r .last)) (sym y ∙ sym v) (r .meets))
+      let r = reads-on (k .packet) a (run .0) (k .row) (x .0) (x .1 .goes) in (
+        x .0,
+        r .last,
+        record {
+          allotted-by = g;
+          short = n .0;
+          writer = v;
+          rule = c .rule;
+          whole-of = x .1;
+          meets = meets-first (allocSyms a (run .0)) (k .packet) (k .row) (x .0) (x .1 .goes);
+          allots = read-follows a (h .previous) (h .bandwidth) i e (k .row) (k .packet) (x .0) (r .last) (r .agrees);
+          meets-last = subst (λ (u : Wr). Meets (k .packet) (u .st) (r .last)) (sym y ∙ sym v) (r .meets);
+        },
+      )
 
--- symbols alone
-pub row3 : (bytes : List ℕ) (ys : List Symbol) (k : RowSent bytes ys) → Bytes bytes → RowAgreed bytes ys k
+pub demand3 : Demand3
+demand3 bytes ys q offsets caps h l k m b z =
+    let r = read-out bytes ys q offsets caps h l k m b in
+    let x = r .2 in
+    agreed bytes ys q offsets caps h l k m z (x .short) (x .allotted-by) (x .writer) (x .rule) (r .0) (r .1) (x .whole-of) (x .meets) (x .allots) (x .meets-last)
+
+-- ---- what was coded is in the writer and its bytes
+
+-- the same trip with the other wishes
+alike : (bytes : List ℕ) (ys : List Symbol) (q : Numbers) (offsets caps : List ℤ) (h g : Wishes) (l m : Lists) (k : Sent bytes ys q offsets caps h l)
+    → SentAlike bytes ys q offsets caps h l k g m → Sent bytes ys q offsets caps g m
+alike bytes ys q offsets caps h g l m k s =
+    record {
+      first = k .first;
+      new = k .new;
+      row = k .row;
+      zs = k .zs;
+      ts = k .ts;
+      writes = k .writes;
+      shares = s .shares;
+      lists = s .lists;
+      filled = s .filled;
+      allots = s .allots;
+      last = k .last;
+      packet = k .packet;
+      closes = rw (s .same-writer, s .same-bytes) (k .closes);
+      fits = k .fits;
+    }
+
+-- one reader reads one row and one allocation from the packet that both closes leave
+row-once : {a b : Reader} {x y : List Symbol} {t u : List Tells} → got a x t ≡ got b y u → a ≡ b
+row-once e = cc
+
+pub coded-once : CodedOnce
+unfolding alike
+coded-once bytes ys q offsets caps h g l m k b s =
+    let i = allocInput q offsets caps in
+    let o = alike bytes ys q offsets caps h g l m k s in
+    let x = read-out bytes ys q offsets caps h l k l b in
+    let y = read-out bytes ys q offsets caps g m o m b in
+    let d : y .0 ≡ x .0 = row-once (sym (y .2 .whole-of .reads) ∙ x .2 .whole-of .reads) in
+    let e : cameTo q offsets caps g (k .row) ≡ cameTo q offsets caps h (k .row)
+    = ap (λ (p : Out × Reader). p .0) (sym (y .2 .allots) ∙ ap (λ (r : Reader). readAlloc i (k .packet) r) d ∙ x .2 .allots) in
+    record {
+      flags = ap (λ (p : Out). p .flags) e;
+      intensity-coded = ap (λ (p : Out). p .intensityCoded) e;
+      intensity = ap (λ (p : Out). p .intensity) e;
+      dual-coded = ap (λ (p : Out). p .dualCoded) e;
+      dual = ap (λ (p : Out). p .dual) e;
+    }
+
+-- ---- symbols alone
+
+pub row3 : Row3
 unfolding writeSyms
 row3 bytes ys k b =
     let n = new-writer (length bytes) (k .first) (k .new) in
@@ -179,8 +257,10 @@ row3 bytes ys k b =
     record {
       first = freshReader (k .packet);
       new = new-reader (k .packet) (omega (arith, x .1 .size, n .0));
+      storage = x .1 .meets .storage;
       begins = x .1 .begins;
       row = x .0;
       reads = x .1 .reads;
+      storage-last = x .1 .goes .storage;
       error = x .1 .goes .error;
     }

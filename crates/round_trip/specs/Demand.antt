@@ -6,6 +6,7 @@ use mathlib.Core.Bool.{false}
 use mathlib.Core.List.{List}
 use lib.IntN.{ℤ, pos}
 use lib.ListN.{getD, length}
+use Rattle.laws.specs.Lists.{Bytes}
 use Rattle.entdec.specs.declared.Reader.{Reader}
 use Rattle.entdec.specs.declared.Started.the-variants.{At}
 use Rattle.entdec.specs.Answer.{startOf as readerOver}
@@ -23,7 +24,7 @@ use Rattle.rate.specs.declared.WrittenAllocation.{WrittenAllocation}
 use Rattle.rate.specs.declared.AllocRead.the-variants as allocRead
 use Rattle.rate.specs.declared.AllocWrote.the-variants as allocWritten
 use Rattle.rate.specs.Question.{Lists, Wishes, allocInput}
-use Rattle.rate.specs.Answer.{afterRead, afterWritten, listsOf, readShown, reading, writing, writtenShown}
+use Rattle.rate.specs.Answer.{afterRead, afterWritten, listsOf, readShown, reading, writeWished, writing, writtenShown}
 use Rattle.round_trip.specs.Calls.{Symbol, Tells, tellsR, tellsW}
 use Rattle.round_trip.specs.Rows.{writeAll, readAll, kinds}
 use Rattle.round_trip.specs.Rows.Wrote.{wrote}
@@ -64,9 +65,10 @@ module _ (bytes : List ℕ) (ys : List Symbol) (q : Numbers) (offsets caps : Lis
   -- What then holds of a reader that is lent the lists m
   module _ (k : Sent) (m : Lists) where
     pub record Agreed : Type 0 where
-      -- a new reader of those bytes, which tells what the new writer told
+      -- a new reader of those bytes, which has the new writer's storage and tells what it told
       pub first : Reader
       pub new : readerOver (k .packet) ≡ At first
+      pub storage : first .storage ≡ k .first .sink .storage
       pub begins : tellsR first ≡ tellsW (k .first)
       -- it accepts and reads the same symbols, and tells the same after each
       pub row : Reader
@@ -83,7 +85,8 @@ module _ (bytes : List ℕ) (ys : List Symbol) (q : Numbers) (offsets caps : Lis
       pub pulses : SameIn (allocInput q offsets caps) (lists .pulses) (k .lists .pulses)
       pub fine : SameIn (allocInput q offsets caps) (lists .fine) (k .lists .fine)
       pub priorities : SameIn (allocInput q offsets caps) (lists .priorities) (k .lists .priorities)
-      -- it still tells the same, and no read was out of range
+      -- it still has the same storage and tells the same, and no read was out of range
+      pub storage-last : shares .next .storage ≡ k .shares .next .sink .storage
       pub tells : tellsR (shares .next) ≡ tellsW (k .shares .next)
       pub error : shares .next .error ≡ false
       -- Both show the definition's allocation for the flags, the intensity and the dual stereo that were written: these are the symbols between
@@ -95,6 +98,44 @@ module _ (bytes : List ℕ) (ys : List Symbol) (q : Numbers) (offsets caps : Lis
       pub lists-written : k .lists ≡ listsOf (allocInput q offsets caps) out l
       pub shown-read : shares ≡ readShown (out, shares .next)
       pub lists-read : lists ≡ listsOf (allocInput q offsets caps) out m
+
+-- The demand: over bytes, what was sent is agreed on, whatever lists of the same sizes the reader is lent
+abbrev pub Demand3 : Type 0
+Demand3 =
+    (bytes : List ℕ) (ys : List Symbol) (q : Numbers) (offsets caps : List ℤ) (h : Wishes) (l : Lists) (k : Sent bytes ys q offsets caps h l) (m : Lists)
+    → Bytes bytes → SameSizes l m → Agreed bytes ys q offsets caps h l k m
+
+-- ---- what was coded is in the writer and its bytes
+
+module _ (bytes : List ℕ) (ys : List Symbol) (q : Numbers) (offsets caps : List ℤ) (h : Wishes) (l : Lists) (k : Sent bytes ys q offsets caps h l) where
+  -- the same bytes, symbols and question with other wishes and other lists: an accepted allocation after the same symbols, that leaves the same
+  -- writer and the same bytes
+  pub record SentAlike (g : Wishes) (m : Lists) : Type 0 where
+    pub shares : WrittenAllocation
+    pub lists : Lists
+    pub filled : List ℕ
+    pub allots : writing q g offsets caps (k .row) m ≡ afterWritten (allocWritten.Got shares) lists filled
+    pub same-writer : shares .next ≡ k .shares .next
+    pub same-bytes : filled ≡ k .filled
+
+-- what an encoder with these wishes comes to after the symbols
+abbrev pub cameTo : Numbers → List ℤ → List ℤ → Wishes → Wr → Out
+cameTo q offsets caps h w = writeWished (allocInput q offsets caps) h w .0
+
+-- The flags, the intensity and dual stereo, and whether the last two were coded
+pub record SameCoded (x y : Out) : Type 0 where
+  pub flags : x .flags ≡ y .flags
+  pub intensity-coded : x .intensityCoded ≡ y .intensityCoded
+  pub intensity : x .intensity ≡ y .intensity
+  pub dual-coded : x .dualCoded ≡ y .dualCoded
+  pub dual : x .dual ≡ y .dual
+
+-- Where the close reports no error, the same writer with the same bytes after the allocation means that the same was coded: other flags, another
+-- intensity or another dual stereo leave another writer or other bytes
+abbrev pub CodedOnce : Type 0
+CodedOnce =
+    (bytes : List ℕ) (ys : List Symbol) (q : Numbers) (offsets caps : List ℤ) (h g : Wishes) (l m : Lists) (k : Sent bytes ys q offsets caps h l)
+    → Bytes bytes → SentAlike bytes ys q offsets caps h l k g m → SameCoded (cameTo q offsets caps g (k .row)) (cameTo q offsets caps h (k .row))
 
 -- ---- the same of symbols alone, with no allocation before the close
 
@@ -115,7 +156,12 @@ module _ (bytes : List ℕ) (ys : List Symbol) where
     pub record RowAgreed : Type 0 where
       pub first : Reader
       pub new : readerOver (k .packet) ≡ At first
+      pub storage : first .storage ≡ k .first .sink .storage
       pub begins : tellsR first ≡ tellsW (k .first)
       pub row : Reader
       pub reads : readAll (kinds ys) (k .packet) first ≡ got row (k .zs) (k .ts)
+      pub storage-last : row .storage ≡ k .row .st .sink .storage
       pub error : row .error ≡ false
+
+abbrev pub Row3 : Type 0
+Row3 = (bytes : List ℕ) (ys : List Symbol) (k : RowSent bytes ys) → Bytes bytes → RowAgreed bytes ys k
