@@ -2,16 +2,16 @@
 -- Assumes nothing.
 use Prim.Native.Nat.{ℕ, zero, suc, _+_, _-_, _*_, _/_, _^_, _≤_, _<_}
 use mathlib.Core.Path.{_≡_, refl, ap, sym, _∙_}
-use mathlib.Core.Bool.{Bool, true, cond}
+use mathlib.Core.Bool.{Bool, true, cond, _&&_, and-eq-true-iff}
 use mathlib.Core.List.{List, [], _∷_}
 use native.Mathlib.Nat.{le-div-iff-mul-le, div-lt-iff-lt-mul}
 use native.Mathlib.Omega.{arith}
-use lib.Dec.{eqb, ltb}
+use lib.Dec.{eqb, ltb, leb}
 use lib.ListN.{getD}
 use lib.Count.{leadingZeros, leading-le, leading-top}
 use lib.Pow.{pow-mono, pow-pos, pow-add}
-use borrow.Author.Tests.{eqb-true, lt-ltb, le-ltb}
-use Rattle.laws.proofs.Tables.{run, run-at}
+use borrow.Author.Tests.{eqb-true, ltb-true, leb-true, lt-ltb, le-ltb}
+use Rattle.laws.proofs.Tables.{run, run-at, below-at}
 use Rattle.laws.proofs.Tests.{by-le}
 use Rattle.entcode.specs.Range.{ilog}
 use Rattle.entcode.specs.Tell.{eighths, top}
@@ -87,3 +87,48 @@ eighth-above r h l p = simp (lt-ltb _ _ p) at (table-right r h l)
 -- and up to it none
 pub eighth-upto : (r : ℕ) → 32768 ≤ r → r < 65536 → r ≤ getD corrections (r / 4096 - 8) 0 → r / 4096 - 8 ≡ eighths r
 eighth-upto r h l p = simp (le-ltb _ _ p) at (table-right r h l)
+
+-- entry k lies among the numbers whose top four digits are those of k + 8
+inBlock : ℕ → Bool
+unfolding corrections
+inBlock k = leb (4096 * (k + 8)) (getD corrections k 0) && ltb (getD corrections k 0) (4096 * (k + 9))
+
+in-blocks : run inBlock 0 8 ≡ true
+unfolding inBlock
+in-blocks = refl
+
+block : (k : ℕ) → k < 8 → (4096 * (k + 8) ≤ getD corrections k 0) × (getD corrections k 0 < 4096 * (k + 9))
+unfolding inBlock
+block k m =
+    let p = and-eq-true-iff _ _ .0 (below-at inBlock 8 in-blocks k m) in
+    (leb-true (4096 * (k + 8)) (getD corrections k 0) (p .0), ltb-true (getD corrections k 0) (4096 * (k + 9)) (p .1))
+
+module _ (r : ℕ) (h : 32768 ≤ r) (l : r < 65536) where
+  -- the same entry, where k is what the top four digits of r say
+  own : (k : ℕ) → k ≤ r / 4096 - 8 → r / 4096 - 8 ≤ k → getD corrections k 0 ≡ getD corrections (r / 4096 - 8) 0
+  own k a b = let e : k ≡ r / 4096 - 8 = omega arith in ap (λ (i : ℕ). getD corrections i 0) e
+
+  -- entry k is a threshold: up to it three truncated squarings give at most k eighths
+  pub upto-entry : (k : ℕ) → k < 8 → r ≤ getD corrections k 0 → eighths r ≤ k
+  upto-entry k m t =
+      by-le r (getD corrections (r / 4096 - 8) 0)
+      (λ u. by-le (r / 4096 - 8) k (λ v. omega (arith, eighth-upto r h l u)) (λ v. absurd (omega (arith, block k m .1))))
+      (λ u.
+      by-le k (r / 4096 - 8)
+      (λ v. by-le (r / 4096 - 8) k (λ w. absurd (omega (arith, own k v w))) (λ w. absurd (omega (arith, block k m .1))))
+      (λ v. omega (arith, eighth-above r h l u)))
+
+  -- and above it more
+  pub above-entry : (k : ℕ) → k < 8 → getD corrections k 0 < r → k < eighths r
+  above-entry k m t =
+      by-le r (getD corrections (r / 4096 - 8) 0)
+      (λ u.
+      by-le (r / 4096 - 8) k
+      (λ v. by-le k (r / 4096 - 8) (λ w. absurd (omega (arith, own k w v))) (λ w. absurd (omega (arith, block k m .0))))
+      (λ v. omega (arith, eighth-upto r h l u)))
+      (λ u. by-le k (r / 4096 - 8) (λ v. omega (arith, eighth-above r h l u)) (λ v. absurd (omega (arith, block k m .0))))
+
+  -- the last entry is the last of the numbers, so that none has eight
+  pub eighths-most : eighths r ≤ 7
+  unfolding corrections
+  eighths-most = upto-entry 7 (omega arith) (omega arith)

@@ -30,13 +30,13 @@ pub fn tell_of(total: u32, rng: u32) -> u32
     if l < total { total - l } else { 0 }
 }
 
-// Where the square roots of 2^15 times an odd power of 2^(1/8) lie, rounded down: the next eighth begins above each.
+// Entry k is the last r to which three truncated squarings give at most k eighths: k + 1 begin one above it (proofs/Logs.antt, `upto-entry` and `above-entry`).
 const CORRECTION: [u32; 8] = [35733, 38967, 42495, 46340, 50535, 55109, 60097, 65535];
 
 // The three digits after the point of the logarithm of r / 2^15.
 fn eighths_of(r: u32) -> u32
     requires { ⌜ (32768 ≤ r) × (r < 65536) ⌝ }
-    ensures { λ v. ⌜ (v ≡ eighths r) × (v ≤ 8) ⌝ }
+    ensures { λ v. ⌜ (v ≡ eighths r) × (v ≤ 7) ⌝ }
 {
     let b = r / 4096 - 8;
     let i = b as usize;

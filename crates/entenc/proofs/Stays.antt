@@ -1,4 +1,4 @@
--- An accepted state stays accepted after an accepted write, but for the held run. Assumes nothing.
+-- An accepted state stays accepted after an accepted write, but for the held run, and after an accepted close. Assumes nothing.
 use Prim.Native.Nat.{ℕ, _+_, _-_, _*_, _≤_}
 use mathlib.Core.Path.{_≡_, sym, _∙_}
 use mathlib.Core.Bool.{true}
@@ -11,9 +11,12 @@ use Rattle.entcode.proofs.Parts.{ModelOk, parts-ok}
 use Rattle.entenc.specs.declared.Writer.{Writer}
 use Rattle.entenc.specs.Write.{Wr, freshWriter}
 use Rattle.entenc.specs.Symbols.{writeSym}
-use Rattle.entenc.specs.Rule.{writerOk, refusalW}
-use Rattle.entenc.proofs.Taken.{ruled, ruled-ok, taken, ready-of}
+use Rattle.entenc.specs.Close.{closeW}
+use Rattle.entenc.specs.Rule.{writerOk, refusalW, refusalClose}
+use Rattle.entenc.proofs.Taken.{ruled, ruled-ok, taken, close-taken, ready-of}
 use Rattle.entenc.proofs.Chain.{Stepped, sym-stepped}
+use Rattle.entenc.proofs.Tails.{closed-fit, closed-rem}
+use Rattle.entenc.proofs.Sticky.{close-keeps}
 
 -- the held bytes are among those that were counted
 abbrev pub Paid : Writer → Type 0
@@ -74,3 +77,19 @@ module _ (h : Shape) (v : ℕ) (w : Wr) (zero : refusalW h v w ≡ 0) (model : M
   stays-long =
       let t = taken h v w zero in
       sym (write-stepped .sound .fit .len) ∙ write-stepped .storage ∙ t .len
+
+-- A close asks for nothing more: the range and the counts stay, the places stay within the storage, and no run is held
+pub close-accepted : (w : Wr) → refusalClose w ≡ 0 → writerOk (closeW w .st) ≡ true
+unfolding closeW
+close-accepted w zero =
+    let t = close-taken w zero in
+    let r = ruled (w .st) (t .0) in
+    let f = closed-fit w (record { len = t .1; room = r .room }) in
+    ruled-ok (closeW w .st)
+    (record {
+      counts = rw (close-keeps w .storage) (r .counts);
+      room = f .room;
+      top = r .top;
+      rem = closed-rem w (r .rem);
+      ext = omega arith;
+    })

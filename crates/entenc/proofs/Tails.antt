@@ -1,10 +1,10 @@
 -- Closing: the two roundings, the bytes of the last number, and all of it in a row. Assumes nothing.
 use Prim.Native.Nat.{ℕ, zero, suc, _+_, _-_, _*_, _/_, _%_, _^_, _<_, _≤_}
 use mathlib.Core.Path.{_≡_, refl, ap, _∙_}
-use mathlib.Core.Bool.{true}
+use mathlib.Core.Bool.{true, _&&_}
 use native.Mathlib.Nat.{div-mul-le-self, lt-irrefl, lt-of-lt-of-le, le-trans, le-of-lt}
 use native.Mathlib.Omega.{arith}
-use lib.Dec.{ltb}
+use lib.Dec.{ltb, leb}
 use lib.Count.{leadingZeros, leading-top}
 use lib.Pow.{pow-mono, pow-pos}
 use borrow.Author.Tests.{lt-ltb, le-ltb}
@@ -13,9 +13,10 @@ use Rattle.entout.specs.Out.{Out, emit, flushed, leftOf}
 use Rattle.entout.specs.Carry.{settled}
 use Rattle.entout.specs.Gap.{finished}
 use Rattle.entout.specs.Fit.{Fit}
-use Rattle.entout.proofs.Outs.{emit-fit}
+use Rattle.entout.proofs.Outs.{emit-fit, flushed-fit}
+use Rattle.entout.proofs.Keeping.{finish-fit}
 use Rattle.entenc.specs.Write.{Wr, wr, outOf, withRange, shiftW, shiftsW}
-use Rattle.entenc.specs.Close.{rounded, tailBits, tailEnd, turnsOf, ending, endW, restRem, closeOut, closeW}
+use Rattle.entenc.specs.Close.{rounded, tailBits, tailEnd, turnsOf, ending, endW, restOut, restRem, closeOut, closeW}
 use Rattle.entenc.specs.Ready.{Turning, Ready}
 use Rattle.entenc.proofs.Shifts.{held-le, turning-step}
 
@@ -158,6 +159,19 @@ shifts-rem : (k : ℕ) (w : Wr) → w .st .rem ≤ 256 → shiftsW k w .st .rem 
 unfolding shiftsW shiftW
 shifts-rem zero w h = h
 shifts-rem (suc k) w h = shifts-rem k (shiftW w) (held-le (w .st .rem) (w .st .val / 8388608) h)
+
+-- the sink that a close leaves lies within its storage
+pub closed-fit : (w : Wr) → Fit (outOf w) → Fit (closeOut w)
+unfolding closeOut endW
+closed-fit w f =
+    finish-fit _ _ _ _
+    (flushed-fit (w .st .waiting / 8) (w .st .window) (restOut (endW w)) (emit-fit _ _ (shifts-fit _ (ending _ _ w) f)))
+
+-- and what it holds is a byte, or none
+pub closed-rem : (w : Wr) → w .st .rem ≤ 256 → restRem (endW w .st .rem) (endW w .st .ext) ≤ 256
+unfolding endW
+closed-rem w h =
+    cond-by (λ (n : ℕ). n ≤ 256) (leb 256 (endW w .st .rem) && leb (endW w .st .ext) 0) (λ t. shifts-rem _ (ending _ _ w) h) (λ t. omega arith)
 
 pub close-fit : (w v : Wr) (k end : ℕ) → Ready 1 w → v ≡ shiftsW k (ending end 1 w) → Fit (outOf v) × (v .st .rem ≤ 256)
 close-fit w v k end r e =

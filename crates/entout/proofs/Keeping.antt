@@ -1,13 +1,15 @@
--- What stays when bytes go out, whatever the sink: the storage, the error mark once it is set, and the lent length. Assumes nothing.
+-- What stays when bytes go out, whatever the sink: the storage, the error mark once it is set, and the lent length; and that a close leaves the
+-- places within the storage. Assumes nothing.
 use Prim.Native.Nat.{ℕ, zero, suc, _+_, _-_, _/_, _%_}
-use mathlib.Core.Path.{_≡_, refl, _∙_}
+use mathlib.Core.Path.{_≡_, refl, sym, _∙_}
 use mathlib.Core.Bool.{true}
 use mathlib.Core.List.{List, [], _∷_}
 use lib.ListN.{length, set, length-set}
 use lib.Dec.{leb, eqb}
 use Rattle.laws.proofs.Tests.{split-on}
-use Rattle.entout.specs.Out.{Out, isRoom, putFront, putEnd, emit, flushed}
+use Rattle.entout.specs.Out.{Out, out, marked, isRoom, putFront, putEnd, emit, flushed}
 use Rattle.entout.specs.Gap.{zeroed, cleared, busts, finished}
+use Rattle.entout.specs.Fit.{Fit}
 
 -- from o to o′: the storage stays, a set mark stays set, and there are as many bytes
 pub record Keeps (o o′ : Out) : Type 0 where
@@ -58,18 +60,32 @@ module _ (window used spare : ℕ) (o : Out) where
   cleared-long : length (cleared o) ≡ length (o .bytes)
   cleared-long = zeroed-long (o .sink .storage - o .sink .ends - o .sink .offs) (o .sink .offs) (o .bytes)
 
-  pub finish-keeps : Keeps o (finished window used spare o)
+  -- a close leaves all as it was, or as many bytes under the same sink or the same with its mark
+  finish-by : (P : Out → Type 0) → P o
+      → ((l : List ℕ) → length l ≡ length (o .bytes) → P (out (o .sink) l) × P (out (marked (o .sink)) l))
+      → P (finished window used spare o)
   unfolding finished
-  finish-keeps =
+  finish-by P same new =
       split-on (o .sink .error)
-      (λ t. simp t (keeps-same o))
+      (λ t. simp t same)
       (λ t.
       split-on (eqb used 0)
-      (λ a. simp (t, a) (record { storage = refl; mark = λ e. e; long = cleared-long }))
+      (λ a. simp (t, a) (new (cleared o) cleared-long .0))
       (λ a.
       split-on (leb (o .sink .storage) (o .sink .ends))
-      (λ b. simp (t, a, b) (record { storage = refl; mark = λ e. refl; long = cleared-long }))
+      (λ b. simp (t, a, b) (new (cleared o) cleared-long .1))
       (λ b.
       split-on (busts (o .sink) used spare)
-      (λ c. simp (t, a, b, c) (record { storage = refl; mark = λ e. refl; long = length-set (cleared o) _ _ ∙ cleared-long }))
-      (λ c. simp (t, a, b, c) (record { storage = refl; mark = λ e. e; long = length-set (cleared o) _ _ ∙ cleared-long })))))
+      (λ c. simp (t, a, b, c) (new _ (length-set (cleared o) _ _ ∙ cleared-long) .1))
+      (λ c. simp (t, a, b, c) (new _ (length-set (cleared o) _ _ ∙ cleared-long) .0)))))
+
+  pub finish-keeps : Keeps o (finished window used spare o)
+  finish-keeps =
+      finish-by (Keeps o) (keeps-same o)
+      (λ l e. (record { storage = refl; mark = λ m. m; long = e }, record { storage = refl; mark = λ m. refl; long = e }))
+
+  -- and a sink within its storage stays so
+  pub finish-fit : Fit o → Fit (finished window used spare o)
+  finish-fit f =
+      finish-by Fit f
+      (λ l e. (record { len = f .len ∙ sym e; room = f .room }, record { len = f .len ∙ sym e; room = f .room }))

@@ -1,6 +1,6 @@
 use borrow.Author.Needs.{needs}
 use native.Mathlib.Omega.{arith}
-use Rattle.entcode.proofs.Logs.{corrections, eighth-above, eighth-upto}
+use Rattle.entcode.proofs.Logs.{corrections, eighths-most, eighth-above, eighth-upto}
 use Rattle.entcode.proofs.eighths_of.Statement.{statement}
 use Rattle.entcode.proofs.eighths_of.Tie as tie
 
@@ -21,11 +21,17 @@ add-result c = search needs
 
 returns : tie.Need-returns
 unfolding corrections
-returns c = (eighth-above (c .before .args .r) (omega arith) (omega arith) (c .if1 .taken), omega arith)
+returns c =
+    let r = c .before .args .r in
+    let e = eighth-above r (omega arith) (omega arith) (c .if1 .taken) in
+    (e, omega (arith, e, eighths-most r (omega arith) (omega arith)))
 
 returns-2 : tie.Need-returns-2
 unfolding corrections
-returns-2 c = (eighth-upto (c .before .args .r) (omega arith) (omega arith) (c .if1 .left), omega arith)
+returns-2 c =
+    let r = c .before .args .r in
+    let e = eighth-upto r (omega arith) (omega arith) (c .if1 .left) in
+    (e, omega (arith, e, eighths-most r (omega arith) (omega arith)))
 
 pub eighths-of-spec : {M : Type 1} → statement M
 eighths-of-spec = tie.close (tie.spec sub-b cast-i mul-if1 array-read-if1 add-result returns returns-2)
