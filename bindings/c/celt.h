@@ -181,7 +181,8 @@ uint32_t celt_alg_unquant(int64_t *state, size_t state_n, const uint8_t *packet,
 /* The record before the first frame: energies of zero, number 0 comes next. */
 uint32_t celt_record_fresh(float *energies, size_t energies_n, uint64_t *next, size_t next_n);
 
-/* A frame's number against the next one: 0, CELT_BELOW_NEXT or CELT_ABOVE_NEXT. It looks at any two numbers. */
+/* A frame's number, 0..4,294,967,294, against the next one, at most 4,294,967,295: 0, CELT_BELOW_NEXT or CELT_ABOVE_NEXT. A number outside its
+ * domain is CELT_NUMBER, as it is to a frame. */
 uint32_t celt_record_order(uint64_t next, uint64_t number);
 
 /* Frame `number`, 0..4,294,967,294, whose coarse energies the reader stands before: only the next number is applied, and goes up by one. Any other

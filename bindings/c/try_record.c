@@ -79,12 +79,23 @@ static void numbers(void) {
     IS(next == UINT64_MAX, 1);
     SAME(energies, kept);
 
-    /* the order of any two numbers, in the domain or not */
+    /* the order of two numbers at the ends of their domains */
     IS(celt_record_order(0, 0), 0);
-    IS(celt_record_order(UINT64_MAX, UINT64_MAX), 0);
-    IS(celt_record_order(UINT64_MAX, 0), CELT_BELOW_NEXT);
-    IS(celt_record_order(0, UINT64_MAX), CELT_ABOVE_NEXT);
-    IS(celt_record_order(4294967296, 4294967295), CELT_BELOW_NEXT);
+    IS(celt_record_order(1, 0), CELT_BELOW_NEXT);
+    IS(celt_record_order(0, 1), CELT_ABOVE_NEXT);
+    IS(celt_record_order(4294967294, 4294967294), 0);
+    IS(celt_record_order(4294967295, 4294967294), CELT_BELOW_NEXT);
+    IS(celt_record_order(0, 4294967294), CELT_ABOVE_NEXT);
+
+    /* and outside them, where the order does not count */
+    IS(celt_record_order(4294967295, 4294967295), CELT_NUMBER);
+    IS(celt_record_order(0, 4294967295), CELT_NUMBER);
+    IS(celt_record_order(4294967296, 4294967294), CELT_NUMBER);
+    IS(celt_record_order(4294967296, 4294967295), CELT_NUMBER);
+    IS(celt_record_order((uint64_t)1 << 40, 5), CELT_NUMBER);
+    IS(celt_record_order(UINT64_MAX, UINT64_MAX), CELT_NUMBER);
+    IS(celt_record_order(UINT64_MAX, 0), CELT_NUMBER);
+    IS(celt_record_order(0, UINT64_MAX), CELT_NUMBER);
 }
 
 /* A record goes into a line and comes back bit for bit, and then answers as the saved one did. */

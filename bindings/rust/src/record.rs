@@ -60,13 +60,17 @@ impl Record {
         self.next
     }
 
-    /// Whether a frame's number is the next: else it is below it, or above it.
+    /// Whether a frame's number, 0..4,294,967,294, is the next: else it is below it, or above it. Where it, or the record's next number, is outside its
+    /// domain, that is the refusal, as it is of a frame.
     ///
     /// ```
     /// let record = celt::Record::from_parts([0.0; 42], 7);
     /// assert_eq!(record.order(6), Err(celt::Refusal::BelowNext));
     /// assert_eq!(record.order(7), Ok(()));
     /// assert_eq!(record.order(8), Err(celt::Refusal::AboveNext));
+    /// assert_eq!(record.order(4_294_967_295), Err(celt::Refusal::Number));
+    /// let record = celt::Record::from_parts([0.0; 42], 4_294_967_296);
+    /// assert_eq!(record.order(5), Err(celt::Refusal::Number));
     /// ```
     pub fn order(&self, number: u64) -> Result<(), Refusal> {
         Refusal::check(raw::record_order(self.next, number))

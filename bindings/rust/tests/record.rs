@@ -65,7 +65,7 @@ fn streams() {
                         Refusal::AboveNext
                     };
                     assert_eq!(no, want, "{number} where {} is next", before.next());
-                    assert!(no == Refusal::Number || before.order(number) == Err(no));
+                    assert_eq!(before.order(number), Err(no));
                     assert_eq!((bits(&record), reader), (bits(&before), fresh));
                 }
             }

@@ -7,7 +7,7 @@ use celt_state::record::load_record;
 use celt_state::record::store_record;
 use stream::Record;
 ghost use mathlib.Core.Path.{_≡_};
-ghost use Rattle.stream.specs.Frame.{orderOf};
+ghost use Rattle.stream.specs.Frame.{ordered};
 ghost use Rattle.celt_answer.specs.Left.{left};
 ghost use Rattle.celt.specs.Record.{freshes, frames, saves, restores};
 
@@ -24,10 +24,10 @@ pub extern "C" fn celt_record_fresh(energies: &mut [f32], next: &mut [u64]) -> u
     2
 }
 
-// A frame's number against the record's next.
+// A frame's number against the record's next, each in its domain.
 #[no_mangle]
 pub extern "C" fn celt_record_order(next: u64, number: u64) -> u32
-    ensures { λ r. ⌜ r ≡ orderOf next number ⌝ }
+    ensures { λ r. ⌜ r ≡ ordered next number ⌝ }
 {
     stream::order(next, number)
 }

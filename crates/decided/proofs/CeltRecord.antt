@@ -3,7 +3,7 @@ use Prim.Native.Nat.{ℕ}
 use Rattle.celt.specs.Record.{frames, freshes, restores, saves}
 use Rattle.celt_answer.specs.Left.{Left, left}
 use Rattle.decided.proofs.One.{one}
-use Rattle.stream.specs.Frame.{orderOf}
+use Rattle.stream.specs.Frame.{ordered}
 use lib.Ieee.{Float}
 use lib.IntN.{ℤ}
 use mathlib.Core.List.{List}
@@ -18,7 +18,7 @@ record-celt-record-fresh energies next r₁ r₂ energies-after₁ energies-afte
 
 -- record::celt_record_order
 pub record-celt-record-order : (next : ℕ) (number : ℕ) (r₁ r₂ : ℕ)
-    → r₁ ≡ orderOf next number → r₂ ≡ orderOf next number
+    → r₁ ≡ ordered next number → r₂ ≡ ordered next number
     → r₁ ≡ r₂
 record-celt-record-order next number r₁ r₂ e₁ e₂ =
     one e₁ e₂

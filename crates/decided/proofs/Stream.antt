@@ -2,7 +2,7 @@
 use Prim.Native.Nat.{ℕ}
 use Rattle.decided.proofs.One.{one}
 use Rattle.entdec.specs.declared.Reader.{Reader}
-use Rattle.stream.specs.Frame.{call, framed, fresh, orderOf}
+use Rattle.stream.specs.Frame.{call, framed, fresh, ordered}
 use Rattle.stream.specs.declared.Framed.{Framed}
 use Rattle.stream.specs.declared.Record.{Record}
 use lib.IntN.{ℤ}
@@ -11,7 +11,7 @@ use mathlib.Core.Path.{_≡_}
 
 -- order
 pub order : (next : ℕ) (number : ℕ) (r₁ r₂ : ℕ)
-    → r₁ ≡ orderOf next number → r₂ ≡ orderOf next number
+    → r₁ ≡ ordered next number → r₂ ≡ ordered next number
     → r₁ ≡ r₂
 order next number r₁ r₂ e₁ e₂ = one e₁ e₂
 

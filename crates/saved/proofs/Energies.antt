@@ -34,7 +34,7 @@ use Rattle.saved.specs.Loop.{noneRead, readOne, readFrom, refusalOf, rec
 
 -- ---- a field of a Q line
 
-size-most : (z : ℤ) → inRange (negsuc 32767) (pos 32767) z ≡ true → natAbs z ≤ 32768
+pub size-most : (z : ℤ) → inRange (negsuc 32767) (pos 32767) z ≡ true → natAbs z ≤ 32768
 size-most (pos n) e = let h = leb-true n 32767 (and-eq-true-iff true (leb n 32767) .0 e .1) in omega arith
 size-most (negsuc n) e = let h = leb-true n 32767 (and-eq-true-iff (leb n 32767) true .0 e .0) in omega arith
 

@@ -71,7 +71,7 @@ no-tabs (x ∷ l) = and-eq-true-iff (noTab (energyText x)) (every noTab (map ene
 -- ---- the line
 
 -- E, the next number and the energies are its fields
-fields-are : (r : Record) → fieldsOf (lineOf r) ≡ (69 ∷ []) ∷ decimalOf (r .next) ∷ map energyText (r .energies)
+pub fields-are : (r : Record) → fieldsOf (lineOf r) ≡ (69 ∷ []) ∷ decimalOf (r .next) ∷ map energyText (r .energies)
 fields-are r = fields-made (69 ∷ []) (decimalOf (r .next) ∷ map energyText (r .energies)) letter-plain rest-plain
   where
     letter-plain : noTab (69 ∷ []) ≡ true

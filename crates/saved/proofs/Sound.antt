@@ -1,6 +1,6 @@
--- A restored record is usable, whatever the line. Assumes nothing.
+-- A record restored from an accepted line is usable, whatever the line. Assumes nothing.
 use Prim.Native.Nat.{ℕ, zero, suc, _≤_}
-use mathlib.Core.Path.{_≡_, refl, _∙_}
+use mathlib.Core.Path.{_≡_, refl, sym, _∙_}
 use mathlib.Core.Bool.{Bool, true, and-eq-true-iff}
 use mathlib.Core.List.{List, [], _∷_, map}
 use native.Mathlib.Omega.{arith}
@@ -25,9 +25,7 @@ use Rattle.text.specs.declared.Whole.{Whole}
 use Rattle.text.specs.declared.Whole.the-variants as whole
 use Rattle.text.proofs.Values.{number-most}
 use Rattle.stream.specs.declared.Record.{Record}
-use Rattle.stream.specs.Frame.{fresh}
 use Rattle.stream.specs.History.{finite32, Usable}
-use Rattle.stream.proofs.Again.{fresh-usable}
 use Rattle.saved.specs.declared.Energy.{Energy}
 use Rattle.saved.specs.declared.Energy.the-variants.{Is, Wild, Wrong}
 use Rattle.saved.specs.Fields.{Small, ofWord, ofWhole, in256ths, energyOf, valueOf}
@@ -89,17 +87,20 @@ sized : (s : List ℕ) → refusalLine s ≡ 0 → length (fieldsOf s) ≡ 44
 unfolding refusalLine wellFormed
 sized s h = eqb-true (length (fieldsOf s)) 44 (and-eq-true-iff (eqb (length (fieldsOf s)) 44) _ .0 (passed _ _ _ _ _ _ h .one) .0)
 
-answer-usable : (n : ℕ) (r : Record) → (n ≡ 0 → Usable r × (r .next ≤ 4294967295)) → Usable (answerRestored n r .rec) × (answerRestored n r .rec .next ≤ 4294967295)
+-- the answer's code is the number of the refusal
+pub code-is : (n : ℕ) (r : Record) → answerRestored n r .code ≡ n
 unfolding answerRestored
-answer-usable zero r h = h refl
-answer-usable (suc n) r h = (fresh-usable, next-zero)
-  where
-    next-zero : fresh .next ≤ 4294967295
-    next-zero = unfold fresh in omega arith
+code-is zero r = refl
+code-is (suc n) r = refl
+
+answer-usable : (n : ℕ) (r : Record) → n ≡ 0 → (n ≡ 0 → Usable r × (r .next ≤ 4294967295)) → Usable (answerRestored n r .rec) × (answerRestored n r .rec .next ≤ 4294967295)
+unfolding answerRestored
+answer-usable zero r e h = h refl
+answer-usable (suc n) r e h = absurd (omega arith)
 
 pub restored-usable : RestoredIsUsable
-restored-usable s =
-    answer-usable (refusalLine s) (recordRead s)
+restored-usable s e =
+    answer-usable (refusalLine s) (recordRead s) (sym (code-is (refusalLine s) (recordRead s)) ∙ e)
     (λ h. (
       record { long = length-map (energiesRead s) valueOf ∙ said-length s (letter s) (sized s h); all = values-fine (letter s) (drop 2 (fieldsOf s)) },
       number-small (nextRead s) (number-most 4294967295 (fieldOf s 1)),

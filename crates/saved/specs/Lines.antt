@@ -92,9 +92,13 @@ module _ (s : List ℕ) where
   abbrev pub recordRead : Record
   recordRead = record { energies = map valueOf energiesRead; next = theNumber nextRead }
 
--- a refusal has a fresh record beside it
+-- the record beside a refusal: its next number is outside the domain, so that every call refuses it (specs/Back.antt)
+unfoldable pub noRecord : Record
+noRecord = record { energies = fresh .energies; next = 4294967296 }
+
+-- a refusal
 abbrev pub refusedAs : ℕ → Restored
-refusedAs n = record { code = n; rec = fresh }
+refusedAs n = record { code = n; rec = noRecord }
 
 -- number 0: the record; any other: that refusal
 unfoldable pub answerRestored : ℕ → Record → Restored

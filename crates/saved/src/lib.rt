@@ -29,7 +29,7 @@ pub enum Saved {
     Refused(u32),
 }
 
-// What restoring answers: code 0 and the record, or the number of the refusal and a fresh record. (An enum may hold no array.)
+// What restoring answers: code 0 and the record, or the number of the refusal and a record that every call refuses. (An enum may hold no array.)
 pub struct Restored {
     pub code: u32,
     pub rec: Record,
@@ -49,10 +49,14 @@ pub fn save(rec: Record, buf: &mut [u8]) -> Saved
     }
 }
 
-// The record that a line, without its line feed, stands for. Refused as 1 (malformed) and 3 (an energy of an E line that is not finite).
+// The record that a line, without its line feed, stands for. Refused as 1 (malformed) and 3 (an energy of an E line that is not finite). No
+// line of more than 390 bytes is well formed: a longer one is refused by its length alone.
 pub fn restore(s: &[u8]) -> Restored
     ensures { λ r. ⌜ r ≡ restoring (now (s .entry)) ⌝ }
 {
+    if 390 < s.len() {
+        return reads::refused(1);
+    }
     if text::fields::count(s) == 44 {
         reads::line(s)
     } else {

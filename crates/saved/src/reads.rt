@@ -149,13 +149,18 @@ fn letter_at(s: &[u8]) -> u8
     letter_of(&s[start..end])
 }
 
-// A refusal, and a fresh record.
+// A refusal, and a record that every call refuses, so that a caller who overlooks the code applies nothing.
 pub fn refused(no: u32) -> Restored
     ensures { λ r. ⌜ r ≡ refusedAs no ⌝ }
 {
+    let fresh = Record::fresh();
+    let e = fresh.energies;
     Restored {
         code: no,
-        rec: Record::fresh(),
+        rec: Record {
+            energies: e,
+            next: 4294967296,
+        },
     }
 }
 

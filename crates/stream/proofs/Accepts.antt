@@ -27,8 +27,8 @@ pub known : (next number : ℕ) (c lm start end intra : ℤ) → numbersOk next 
 unfolding numbersOk
 known next number c lm start end intra e =
     let a = and-eq-true-iff _ _ .0 e in
-    let b = and-eq-true-iff _ _ .0 (a .0) in
-    record { coarse = b .0; last = leb-true number 4294967294 (b .1); most = leb-true next 4294967295 (a .1) }
+    let b = and-eq-true-iff _ _ .0 (a .1) in
+    record { coarse = a .0; last = leb-true number 4294967294 (b .0); most = leb-true next 4294967295 (b .1) }
 
 -- ---- answers
 

@@ -1,7 +1,7 @@
 -- A number that was applied is refused as 10 ever after. Assumes nothing.
-use Prim.Native.Nat.{ℕ, zero, suc, _+_, _<_}
+use Prim.Native.Nat.{ℕ, zero, suc, _+_, _≤_, _<_}
 use mathlib.Core.Path.{_≡_, refl, sym, ap, _∙_}
-use mathlib.Core.Bool.{Bool, true, false, _&&_, and-eq-true-iff, false≢true}
+use mathlib.Core.Bool.{Bool, true, false, cond, _&&_, and-eq-true-iff, false≢true}
 use mathlib.Core.List.{List, [], _∷_}
 use native.Mathlib.Omega.{arith}
 use lib.Dec.{eqb}
@@ -9,9 +9,10 @@ use lib.Ieee.{Float, binary32, fits}
 use lib.Ieee.Scale.{finite}
 use lib.IntN.{ℤ}
 use lib.ListN.{length}
-use borrow.Author.Tests.{eq-eqb, le-leb, lt-ltb}
+use borrow.Author.Tests.{eq-eqb, le-leb, lt-ltb, le-ltb}
 use Rattle.laws.specs.Lists.{every}
 use Rattle.laws.specs.Signs.{clip}
+use Rattle.laws.proofs.Tests.{by-le, split-on}
 use Rattle.entcode.specs.Refusal.{refusal}
 use Rattle.entdec.specs.Rule.{readerOk, readRefusal}
 use Rattle.entdec.proofs.Accepted.{Open, opened, sound-ok}
@@ -20,7 +21,7 @@ use Rattle.quant_bands.proofs.Accepts.{coarse-in}
 use Rattle.quant_bands.proofs.Finite.{coarse-solid}
 use Rattle.stream.specs.declared.Record.{Record}
 use Rattle.stream.specs.Frame.{Call, fresh, numbersOk, orderOf, refusalFrame, refused, answer, framed}
-use Rattle.stream.specs.History.{recordAfter, finite32, Usable, wellPut, AgainRefused, TwiceRefused}
+use Rattle.stream.specs.History.{recordAfter, finite32, Usable, wellPut, BelowRefused, TenIsBelow, PastRefused, AgainRefused, TwiceRefused}
 use Rattle.stream.proofs.Accepts.{known}
 use Rattle.stream.proofs.Once.{code-is, next-up, number-next, next-goes-up}
 
@@ -67,14 +68,74 @@ ten true true false l own live told e f g = absurd (false≢true e)
 ten true false c l own live told e f g = absurd (false≢true e)
 ten false b c l own live told e f g = absurd (false≢true e)
 
-below-refused : (r : Record) (q : Call) → Usable r → q .number < r .next → wellPut r q ≡ true → refusalFrame r q ≡ 10
+below-ten : (r : Record) (q : Call) → wellPut r q ≡ true → every finite (r .energies) ≡ true → q .number < r .next → refusalFrame r q ≡ 10
 unfolding refusalFrame readRefusal
-below-refused r q u h w =
-    ten (eqb (q .coder .storage) (length (q .packet))) (readerOk (q .coder)) _ _ _ _ _ w (finite-all (r .energies) (u .all)) (below-is (r .next) (q .number) h)
+below-ten r q w f h =
+    ten (eqb (q .coder .storage) (length (q .packet))) (readerOk (q .coder)) _ _ _ _ _ w f (below-is (r .next) (q .number) h)
 
-pub below-answer : (r : Record) (q : Call) → Usable r → q .number < r .next → wellPut r q ≡ true → framed r q ≡ refused 10 r (q .coder)
+pub below-refused : BelowRefused
 unfolding answer
-below-answer r q u h w = ap (λ (n : ℕ). answer n r q) (below-refused r q u h w)
+below-refused r q w f h = ap (λ (n : ℕ). answer n r q) (below-ten r q w f h)
+
+-- the number of the order alone is 10, where the other tests pass
+own-ten : (next number : ℕ) (told : Bool) → refusal true true true (orderOf next number) true told ≡ 10 → number < next
+unfolding refusal
+own-ten next number told e =
+    by-le next number (λ h. by-le number next (λ g. absurd (equal h g told e)) (λ g. absurd (above g e))) (λ h. h)
+  where
+    equal : next ≤ number → number ≤ next → (told : Bool) → refusal true true true (orderOf next number) true told ≡ 10 → ⊥
+    equal h g true e = let z = rw (le-ltb number next h, le-ltb next number g) at e in omega (arith, z)
+    equal h g false e = let z = rw (le-ltb number next h, le-ltb next number g) at e in omega (arith, z)
+
+    above : next < number → refusal true true true (orderOf next number) true told ≡ 10 → ⊥
+    above g e = let z = rw (le-ltb number next (omega arith), lt-ltb next number g) at e in omega (arith, z)
+
+ten-is : (a b c l : Bool) (next number : ℕ) (told : Bool) → refusal (a && true) (b && c) l (orderOf next number) true told ≡ 10
+    → ((a && b && c) ≡ true) × (l ≡ true) × (number < next)
+ten-is true true true true next number told e = (refl, refl, own-ten next number told e)
+ten-is true true true false next number told e = absurd (unfold refusal in omega (arith, e))
+ten-is true true false l next number told e = absurd (unfold refusal in omega (arith, e))
+ten-is true false c l next number told e = absurd (unfold refusal in omega (arith, e))
+ten-is false b c l next number told e = absurd (unfold refusal in omega (arith, e))
+
+ten-below : (r : Record) (q : Call) → refusalFrame r q ≡ 10 → (wellPut r q ≡ true) × (every finite (r .energies) ≡ true) × (q .number < r .next)
+unfolding refusalFrame readRefusal
+ten-below r q e = ten-is (eqb (q .coder .storage) (length (q .packet))) (readerOk (q .coder)) _ _ (r .next) (q .number) _ e
+
+pub ten-is-below : TenIsBelow
+ten-is-below r q e = ten-below r q (sym (code-is (refusalFrame r q) r q) ∙ e)
+
+-- of a usable record
+below-usable : (r : Record) (q : Call) → Usable r → q .number < r .next → wellPut r q ≡ true → framed r q ≡ refused 10 r (q .coder)
+below-usable r q u h w = below-refused r q w (finite-all (r .energies) (u .all)) h
+
+-- ---- a next number outside its domain
+
+outside : (r : Record) (q : Call) → 4294967295 < r .next → numbersOk (r .next) (q .number) (q .c) (q .lm) (q .start) (q .end) (q .intra) ≡ false
+outside r q h =
+    split-on (numbersOk (r .next) (q .number) (q .c) (q .lm) (q .start) (q .end) (q .intra))
+    (λ e. absurd (let l = known _ _ _ _ _ _ _ e .most in omega arith))
+    (λ e. e)
+
+-- a number outside its domain is 1, whatever the tests after it say, and 2 goes before it
+one-or-two : (a b c l : Bool) (own : ℕ) (told : Bool) → c ≡ false → refusal (a && true) (b && c) l own true told ≡ cond a 1 2
+unfolding refusal
+one-or-two true true c l own told e = rw e
+one-or-two true false c l own told e = refl
+one-or-two false b c l own told e = refl
+
+past-number : (r : Record) (q : Call) → 4294967295 < r .next → refusalFrame r q ≡ cond (eqb (q .coder .storage) (length (q .packet))) 1 2
+unfolding refusalFrame readRefusal
+past-number r q h = one-or-two (eqb (q .coder .storage) (length (q .packet))) (readerOk (q .coder)) _ _ _ _ (outside r q h)
+
+answer-refused : (t : Bool) (r : Record) (q : Call) → answer (cond t 1 2) r q ≡ refused (cond t 1 2) r (q .coder)
+unfolding answer
+answer-refused true r q = refl
+answer-refused false r q = refl
+
+pub past-refused : PastRefused
+past-refused r q h =
+    ap (λ (n : ℕ). answer n r q) (past-number r q h) ∙ answer-refused (eqb (q .coder .storage) (length (q .packet))) r q
 
 -- ---- the theorems
 
@@ -84,7 +145,7 @@ again-refused r q qs q′ u h e w =
     let m = number-next r q z in
     let g = next-goes-up (refusalFrame r q) r q z in
     let l = next-up qs (framed r q .rec) in
-    below-answer (recordAfter (framed r q .rec) qs) q′ (usable-after qs (framed r q .rec) (framed-usable r q u)) (omega arith) w
+    below-usable (recordAfter (framed r q .rec) qs) q′ (usable-after qs (framed r q .rec) (framed-usable r q u)) (omega arith) w
 
 -- the numbers of a frame that was applied stay in their domain
 numbers-again : (next number : ℕ) (c lm start end intra : ℤ) → numbersOk next number c lm start end intra ≡ true → number ≡ next
@@ -112,4 +173,4 @@ twice-refused r q u h =
     let z : refusalFrame r q ≡ 0 = sym (code-is (refusalFrame r q) r q) ∙ h in
     let m = number-next r q z in
     let g = next-goes-up (refusalFrame r q) r q z in
-    below-answer (framed r q .rec) q (framed-usable r q u) (omega arith) (well-put r q z)
+    below-usable (framed r q .rec) q (framed-usable r q u) (omega arith) (well-put r q z)

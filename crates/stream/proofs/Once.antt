@@ -14,7 +14,7 @@ use Rattle.entdec.proofs.Accepted.{opened}
 use Rattle.stream.specs.declared.Record.{Record}
 use Rattle.stream.specs.declared.Framed.{Framed}
 use Rattle.stream.specs.Frame.{Call, fresh, orderOf, refusalFrame, applied, refused, answer, framed}
-use Rattle.stream.specs.History.{recordAfter, appliedIn, numbersFrom, times, OnlyTheNext, RefusedChangesNothing, InOrder, EachOnce}
+use Rattle.stream.specs.History.{recordAfter, appliedIn, numbersFrom, times, OnlyTheNext, RefusedChangesNothing, InOrder, EachOnce, CountsUp, NeverAgain}
 
 -- ---- one frame
 
@@ -64,10 +64,10 @@ refused-changes-nothing r q h =
 -- ---- a stream of frames
 
 -- the numbers a from n on were applied, and m comes next
-abbrev Counted : ℕ → List ℕ → ℕ → Type 0
+abbrev pub Counted : ℕ → List ℕ → ℕ → Type 0
 Counted n a m = (a ≡ numbersFrom n (length a)) × (m ≡ n + length a)
 
-counted-none : (n : ℕ) → Counted n [] n
+pub counted-none : (n : ℕ) → Counted n [] n
 unfolding numbersFrom
 counted-none n = (refl, omega arith)
 
@@ -80,7 +80,7 @@ counted-more n number n′ a m p q h =
     (ap (λ (k : ℕ). k ∷ a) p ∙ ap (λ (l : List ℕ). n ∷ l) (h .0 ∙ ap (λ (k : ℕ). numbersFrom k (length a)) e), omega arith)
 
 -- one frame before them, applied or refused
-counted-frame : (r : Record) (q : Call) (a : List ℕ) (m : ℕ) → Counted (framed r q .rec .next) a m
+pub counted-frame : (r : Record) (q : Call) (a : List ℕ) (m : ℕ) → Counted (framed r q .rec .next) a m
     → Counted (r .next) (cond (eqb (framed r q .code) 0) (q .number ∷ a) a) m
 counted-frame r q a m h =
     cond-by (λ l. Counted (r .next) l m) (eqb (framed r q .code) 0)
@@ -99,6 +99,28 @@ counted (q ∷ qs) r = counted-frame r q (appliedIn (framed r q .rec) qs) (recor
 -- the next number never falls
 pub next-up : (qs : List Call) (r : Record) → r .next ≤ recordAfter r qs .next
 next-up qs r = let h = counted qs r .1 in omega arith
+
+-- where m comes next, m - n of them were
+pub counted-is : (n : ℕ) (a : List ℕ) (m : ℕ) → Counted n a m → (n ≤ m) × (a ≡ numbersFrom n (m - n))
+counted-is n a m h =
+    let g = h .1 in
+    let e : m - n ≡ length a = omega arith in
+    (omega arith, h .0 ∙ ap (numbersFrom n) (sym e))
+
+-- from any record
+pub counts-up : CountsUp
+counts-up r qs = counted-is (r .next) (appliedIn r qs) (recordAfter r qs .next) (counted qs r)
+
+-- a number that was applied is below the next ever after, and only the next is applied
+pub never-again : NeverAgain
+never-again r q qs q′ h e h′ =
+    let o = only-the-next r q h in
+    let o′ = only-the-next (recordAfter (framed r q .rec) qs) q′ h′ in
+    let m = o .0 in
+    let g = o .1 in
+    let m′ = o′ .0 in
+    let l = next-up qs (framed r q .rec) in
+    omega arith
 
 -- from a fresh record
 pub in-order-all : InOrder
@@ -125,6 +147,13 @@ times-in n m zero h g = absurd (omega arith)
 times-in n m (suc k) h g =
     by-le n m (λ l. rw (eq-eqb m n (omega arith)) (ap suc (times-low n (suc m) k (omega arith))))
     (λ l. rw (ne-eqb m n (λ e. omega arith)) (times-in n (suc m) k (omega arith) (omega arith)))
+
+-- so in them it stands at most once
+pub times-most : (n m k : ℕ) → times n (numbersFrom m k) ≤ 1
+times-most n m k =
+    by-le m n
+    (λ h. by-le (m + k) n (λ g. let e = times-past n m k g in omega arith) (λ g. let e = times-in n m k h g in omega arith))
+    (λ h. let e = times-low n m k h in omega arith)
 
 pub each-once : EachOnce
 each-once qs n =

@@ -9,6 +9,7 @@ use lib.Ieee.Scale.{finite}
 use lib.ListN.{length, replicate}
 use Rattle.laws.specs.Lists.{every}
 use Rattle.laws.specs.Signs.{clip}
+use Rattle.entcode.specs.Refusal.{refusal}
 use Rattle.entdec.specs.declared.Reader.{Reader}
 use Rattle.entdec.specs.Rule.{readRefusal}
 use Rattle.quant_bands.specs.Coarse.{coarse}
@@ -44,9 +45,17 @@ call d s number c lm start end intra =
 abbrev pub orderOf : ℕ → ℕ → ℕ
 orderOf next number = cond (ltb number next) 10 (cond (ltb next number) 11 0)
 
--- C, LM, the bands and intra as for a coarse decode, the frame's number 0..4,294,967,294, the record's next at most one more (1)
+-- a frame's number 0..4,294,967,294, and the record's next at most one more (1)
+abbrev pub bothInDomain : ℕ → ℕ → Bool
+bothInDomain next number = leb number 4294967294 && leb next 4294967295
+
+-- what `order` answers, 0 for the next number itself: 1 a number outside its domain, 10 or 11 the order
+unfoldable pub ordered : ℕ → ℕ → ℕ
+ordered next number = refusal true (bothInDomain next number) true (orderOf next number) true true
+
+-- C, LM, the bands and intra as for a coarse decode, the frame's number and the record's next in their domain (1)
 unfoldable pub numbersOk : ℕ → ℕ → ℤ → ℤ → ℤ → ℤ → ℤ → Bool
-numbersOk next number c lm start end intra = coarseOk c lm start end intra && leb number 4294967294 && leb next 4294967295
+numbersOk next number c lm start end intra = coarseOk c lm start end intra && bothInDomain next number
 
 -- the number of the refusal, 0 for none: 2 bytes, 1 state and numbers, 3 the record's energies, 10 or 11 the order, 4
 unfoldable pub refusalFrame : Record → Call → ℕ

@@ -1,6 +1,6 @@
 -- What a stream of frame calls does to a record: each number is applied once, in order. The theorems stand here as statements; their proofs
 -- are in proofs/Once.antt, proofs/Again.antt, proofs/Mono.antt and proofs/Uses.antt.
-use Prim.Native.Nat.{ℕ, zero, suc, _+_, _≤_, _<_}
+use Prim.Native.Nat.{ℕ, zero, suc, _+_, _-_, _≤_, _<_}
 use mathlib.Core.Path.{_≡_}
 use mathlib.Core.Bool.{Bool, true, cond, _&&_}
 use mathlib.Core.List.{List, [], _∷_}
@@ -52,7 +52,41 @@ InOrder = (qs : List Call) → appliedIn fresh qs ≡ numbersFrom 0 (recordAfter
 abbrev pub EachOnce : Type 0
 EachOnce = (qs : List Call) (n : ℕ) → times n (appliedIn fresh qs) ≡ cond (ltb n (recordAfter fresh qs .next)) 1 0
 
+-- from any record, the numbers applied count up by one from its next number, and that number never falls
+abbrev pub CountsUp : Type 0
+CountsUp =
+    (r : Record) (qs : List Call) → (r .next ≤ recordAfter r qs .next) × (appliedIn r qs ≡ numbersFrom (r .next) (recordAfter r qs .next - r .next))
+
 -- ---- a number that comes again
+
+-- over any record and any calls: a number that was applied is never applied again, whatever calls come between
+abbrev pub NeverAgain : Type 0
+NeverAgain =
+    (r : Record) (q : Call) (qs : List Call) (q′ : Call) → framed r q .code ≡ 0 → q′ .number ≡ q .number
+    → framed (recordAfter (framed r q .rec) qs) q′ .code ≡ 0 → ⊥
+
+-- refusals 2 and 1 do not apply to a call: its bytes are as many as its reader's storage, its reader is sound, its numbers are in their domain
+abbrev pub wellPut : Record → Call → Bool
+wellPut r q =
+    eqb (q .coder .storage) (length (q .packet)) && readerOk (q .coder)
+    && numbersOk (r .next) (q .number) (q .c) (q .lm) (q .start) (q .end) (q .intra)
+
+-- over any record: where 2, 1 and 3 do not apply, a number below the next is refused as 10, and record and reader stay as they were
+abbrev pub BelowRefused : Type 0
+BelowRefused =
+    (r : Record) (q : Call) → wellPut r q ≡ true → every finite (r .energies) ≡ true → q .number < r .next → framed r q ≡ refused 10 r (q .coder)
+
+-- and nothing else is: 10 says that 2, 1 and 3 do not apply, and that the number is below the next
+abbrev pub TenIsBelow : Type 0
+TenIsBelow =
+    (r : Record) (q : Call) → framed r q .code ≡ 10 → (wellPut r q ≡ true) × (every finite (r .energies) ≡ true) × (q .number < r .next)
+
+-- over any record whose next number is outside its domain: every frame is refused, as 2 where its bytes are not as many as its reader's storage,
+-- else as 1, and record and reader stay as they were
+abbrev pub PastRefused : Type 0
+PastRefused =
+    (r : Record) (q : Call) → 4294967295 < r .next
+    → framed r q ≡ refused (cond (eqb (q .coder .storage) (length (q .packet))) 1 2) r (q .coder)
 
 -- a finite f32
 abbrev pub finite32 : Float → Bool
@@ -62,12 +96,6 @@ finite32 x = fits binary32 x && finite x
 pub record Usable (r : Record) : Type 0 where
   pub long : length (r .energies) ≡ 42
   pub all : every finite32 (r .energies) ≡ true
-
--- refusals 2 and 1 do not apply to a call: its bytes are as many as its reader's storage, its reader is sound, its numbers are in their domain
-abbrev pub wellPut : Record → Call → Bool
-wellPut r q =
-    eqb (q .coder .storage) (length (q .packet)) && readerOk (q .coder)
-    && numbersOk (r .next) (q .number) (q .c) (q .lm) (q .start) (q .end) (q .intra)
 
 -- whatever calls come between, a call with a number that was applied is refused as 10, and the record stays as it is
 abbrev pub AgainRefused : Type 0

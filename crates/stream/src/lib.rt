@@ -1,7 +1,7 @@
 // The stream record: the energies of the frame before, and the number of the frame that comes next. Document 01, "Energies, shapes and the stream
 // record".
 ghost use mathlib.Core.Path.{_≡_};
-ghost use Rattle.stream.specs.Frame.{fresh, orderOf, call, framed};
+ghost use Rattle.stream.specs.Frame.{fresh, orderOf, ordered, call, framed};
 use entdec::Reader;
 
 pub mod gate;
@@ -23,8 +23,9 @@ pub struct Framed {
 }
 
 // THE PLACE WHERE A REPEAT IS REFUSED. A frame's number must be the record's next: one below it was applied before and is refused as 10, one
-// above it would leave a gap and is refused as 11. 0 for the next number itself.
-pub fn order(next: u64, number: u64) -> u32
+// above it would leave a gap and is refused as 11. 0 for the next number itself. `order` and the gate of `frame` both ask
+// here, and what comes before 10 in the order of refusals goes before it.
+pub fn order_of(next: u64, number: u64) -> u32
     ensures { λ r. ⌜ r ≡ orderOf next number ⌝ }
 {
     if number < next {
@@ -34,6 +35,15 @@ pub fn order(next: u64, number: u64) -> u32
         return 11;
     }
     0
+}
+
+// Whether frame `number` comes next: refused as 1 (either number outside its domain), 10 (below the next) and 11 (above it).
+pub fn order(next: u64, number: u64) -> u32
+    ensures { λ r. ⌜ r ≡ ordered next number ⌝ }
+{
+    let known = gate::both_in_domain(next, number);
+    let own = order_of(next, number);
+    entcode::refusal_of(true, known, true, own, true, true)
 }
 
 impl Record {

@@ -2,3 +2,4 @@ pub mod Tabs
 pub mod Values
 pub mod Texts
 pub mod Back
+pub mod Lengths

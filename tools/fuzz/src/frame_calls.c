@@ -137,9 +137,19 @@ static uint64_t some_number(uint64_t next) {
     }
 }
 
+/* A frame's number and the record's next are in their domain; else 1. */
+static int numbers_in_domain(uint64_t next, uint64_t number) {
+    return number <= 4294967294 && next <= 4294967295;
+}
+
+/* 10 below the next number, 11 above it. */
+static uint32_t out_of_order(uint64_t next, uint64_t number) {
+    return number < next ? 10 : number > next ? 11 : 0;
+}
+
 void try_record_order(void) {
     uint64_t next = any() >> below(64), number = one_in(2) ? some_number(next) : any() >> below(64);
-    (void)CALL(record_order, number < next ? 10 : number > next ? 11 : 0, next, number);
+    (void)CALL(record_order, numbers_in_domain(next, number) ? out_of_order(next, number) : 1, next, number);
 }
 
 void try_record_frame(void) {
@@ -158,8 +168,8 @@ void try_record_frame(void) {
     number = some_number(was);
     if (next->count > 0)
         memcpy(next->at, &was, sizeof was);
-    want = refused_read(state, bytes, lengths, coarse_ok(q.c, q.lm, q.start, q.end, q.intra) && number <= 4294967294 && was <= 4294967295,
-                        all_finite(energies->at, energies->count), number < was ? 10 : number > was ? 11 : 0);
+    want = refused_read(state, bytes, lengths, coarse_ok(q.c, q.lm, q.start, q.end, q.intra) && numbers_in_domain(was, number),
+                        all_finite(energies->at, energies->count), out_of_order(was, number));
     may_change_bands(energies, q.c, q.start, q.end);
     answer = CALL(record_frame, want, LENT(float, energies), LENT(uint64_t, next), LENT(int64_t, state), LENT(const uint8_t, bytes), number, q.c, q.lm,
                   q.start, q.end, q.intra);

@@ -1,5 +1,6 @@
 //! The stream record by document 01's words, apart from the port, since no oracle has one. The coarse decode inside a frame is both oracles' (energy.rs).
 use crate::energy::Asked;
+use crate::refusals;
 use crate::states::{self, List, State};
 
 /// A record: 42 energies by their bits, and its next number.
@@ -8,8 +9,13 @@ pub type Record = ([u32; 42], u64);
 /// No frame was applied.
 pub const FRESH: Record = ([0; 42], 0);
 
+/// A frame's number and a record's next are in their domains.
+fn known(next: u64, number: u64) -> bool {
+    number <= 4_294_967_294 && next <= 4_294_967_295
+}
+
 /// 10 below the next number, 11 above it.
-pub fn order(next: u64, number: u64) -> u32 {
+fn out_of_order(next: u64, number: u64) -> u32 {
     match number.cmp(&next) {
         std::cmp::Ordering::Less => 10,
         std::cmp::Ordering::Equal => 0,
@@ -17,10 +23,14 @@ pub fn order(next: u64, number: u64) -> u32 {
     }
 }
 
+/// The number of the refusal of the two numbers alone, 0 for none.
+pub fn order(next: u64, number: u64) -> u32 {
+    refusals::first(true, known(next, number), true, out_of_order(next, number), true, true)
+}
+
 /// The number of the refusal of that frame, 0 for none: a coarse decode of the record's energies, from a reader's state.
 pub fn refusal(a: &Asked, list: &List, next: u64, number: u64) -> u32 {
-    let known = number <= 4_294_967_294 && next <= 4_294_967_295;
-    a.refusal_of(list, known, order(next, number))
+    a.refusal_of(list, known(next, number), out_of_order(next, number))
 }
 
 /// What a frame answers: 0 or the number of the refusal, and the record and the reader after it.

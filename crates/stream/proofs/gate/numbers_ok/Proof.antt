@@ -8,12 +8,16 @@ use Rattle.stream.proofs.gate.numbers_ok.Tie as tie
 coarse-ok-requires : tie.Need-coarse-ok-requires
 coarse-ok-requires c κs = search needs
 
+both-in-domain-requires : tie.Need-both-in-domain-requires
+both-in-domain-requires c κs = search needs
+
 returns : tie.Need-returns
 unfolding numbersOk
 returns c =
-    let f = c .before .fits in
-    let e = rw (toZ-ofZ (f .c), toZ-ofZ (f .lm), toZ-ofZ (f .start), toZ-ofZ (f .end), toZ-ofZ (f .intra)) at (c .coarse-ok .ensures) in
-    rw e
+    let k = c .before in
+    let f = k .before .fits in
+    let e = rw (toZ-ofZ (f .c), toZ-ofZ (f .lm), toZ-ofZ (f .start), toZ-ofZ (f .end), toZ-ofZ (f .intra)) at (k .coarse-ok .ensures) in
+    rw (e, c .both-in-domain .ensures)
 
 pub numbers-ok-spec : {M : Type 1} → statement M
-numbers-ok-spec = tie.close (tie.spec coarse-ok-requires returns)
+numbers-ok-spec = tie.close (tie.spec coarse-ok-requires both-in-domain-requires returns)

@@ -16,8 +16,8 @@ slice-aggregate-all-finite c = search needs
 all-finite-requires : tie.Need-all-finite-requires
 all-finite-requires c κs = search needs
 
-order-requires : tie.Need-order-requires
-order-requires c κs = search needs
+order-of-requires : tie.Need-order-of-requires
+order-of-requires c κs = search needs
 
 refusal-requires : tie.Need-refusal-requires
 refusal-requires c κs = search needs
@@ -28,9 +28,9 @@ returns c =
     let f = n .before .before .fits in
     let a = n .before .before .args in
     let e = rw (toZ-ofZ (f .c), toZ-ofZ (f .lm), toZ-ofZ (f .start), toZ-ofZ (f .end), toZ-ofZ (f .intra)) at (n .numbers-ok .ensures) in
-    let r : c .refusal .result ≡ readRefusal (a .bytes) (a .d) true (n .numbers-ok .result) (c .before .before .all-finite .result) (c .before .order .result) =
+    let r : c .refusal .result ≡ readRefusal (a .bytes) (a .d) true (n .numbers-ok .result) (c .before .before .all-finite .result) (c .before .order-of .result) =
     c .refusal .ensures in
-    rw (e, c .before .before .all-finite .ensures, c .before .order .ensures) at r
+    rw (e, c .before .before .all-finite .ensures, c .before .order-of .ensures) at r
 
 pub refusal-spec : {M : Type 1} → statement M
 refusal-spec =
@@ -39,6 +39,6 @@ refusal-spec =
     numbers-ok-requires
     slice-aggregate-all-finite
     all-finite-requires
-    order-requires
+    order-of-requires
     refusal-requires
     returns)
