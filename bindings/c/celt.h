@@ -143,7 +143,10 @@ uint32_t celt_bits2pulses(int32_t band, int32_t lm, int32_t bits, uint32_t *valu
 uint32_t celt_pulses2bits(int32_t band, int32_t lm, int32_t pulses, uint32_t *value, size_t value_n);
 
 /* ---- bit allocation: c 1..2, lm 0..3, 0 <= start < end <= 21, trim 0..10, total up to 81,600; offsets 0..81,600, caps 0..32,767, or it is
- *      CELT_ENTRY. The bands start..end-1 of pulses, fine and priorities are written; shown is coded bands, balance, intensity, dual stereo. */
+ *      CELT_ENTRY. The bands start..end-1 of pulses, fine and priorities are written; shown is coded bands, balance, intensity, dual stereo.
+ *
+ *      Offsets and caps are checked whole, outside start..end-1 too, where no band uses them. A decoder that leaves those unset (libopus leaves its
+ *      offsets so) is refused as CELT_ENTRY: set them to 0, or to any value in range, before the call. */
 
 uint32_t celt_compute_allocation_read(int64_t *state, size_t state_n, const uint8_t *packet, size_t packet_n, int32_t c, int32_t lm,
                                       int32_t start, int32_t end, int32_t trim, int32_t total, const int32_t *offsets, size_t offsets_n,

@@ -9,6 +9,8 @@ int main(void) {
     try_record();
     try_trip();
     try_order();
+    try_guard();
+    try_bits();
     printf("%u checks, %u failed\n", tried, failed);
     return failed != 0;
 }

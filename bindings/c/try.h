@@ -43,5 +43,7 @@ void try_frames(void); /* try_frames.c: energies and shapes */
 void try_record(void); /* try_record.c: the stream record, its lines, the lister */
 void try_trip(void);   /* try_trip.c: the round trip */
 void try_order(void);  /* try_order.c: every refusal of every call, and their order */
+void try_guard(void);  /* try_guard.c: lengths are looked at before entries */
+void try_bits(void);   /* try_bits.c: floats that are left alone, bit for bit */
 
 #endif

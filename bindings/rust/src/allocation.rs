@@ -3,6 +3,9 @@ pub const BANDS: usize = 21;
 
 /// What an allocation is asked: channels 1..2, LM 0..3, the bands start..end-1 with 0 <= start < end <= 21, trim 0..10, and the total in
 /// eighth bits, up to 81,600, where a negative one reads as 0; for each band its boost, 0..81,600, and its cap, 0..32,767.
+///
+/// Both lists are checked whole, outside start..end-1 too, where no band uses an entry: one that a decoder left unset there is refused as
+/// [`crate::Refusal::Entry`]. Set them to 0, or to any value in range, before the call.
 #[derive(Clone, Copy, Debug, Default, PartialEq, Eq, Hash)]
 pub struct Frame {
     pub channels: i32,
@@ -26,7 +29,8 @@ pub struct Wishes {
 }
 
 /// A bit allocation: for each band its pulses' bits, its fine bits and its priority; how many bands are coded, what the last of them hands on,
-/// the first band whose channels are coded as one, and whether the bands below it have theirs apart.
+/// the first band whose channels are coded as one, and whether the bands below it have theirs apart. [`Frame`] says what is asked, and what has to stand in
+/// its lists outside start..end-1.
 #[derive(Clone, Copy, Debug, Default, PartialEq, Eq, Hash)]
 pub struct Allocation {
     pub coded: i32,

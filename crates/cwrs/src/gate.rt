@@ -58,10 +58,14 @@ fn own_write(y: &[i32], n: u32, k: u32) -> u32
     }
 }
 
-// The number of the refusal of writing, 0 for none, over so many bytes.
+// The number of the refusal of writing, 0 for none, over so many bytes. The vector is read once every length is right.
 pub fn refusal_write(w: Writer, bytes: usize, y: &[i32], n: u32, k: u32) -> u32
     ensures { λ r. ⌜ r ≡ writeRefusal bytes w (isRoom (now (y .entry))) (inDomain n k) true (ownWrite (now (y .entry)) n k) ⌝ }
 {
-    let own = own_write(y, n, k);
-    w.refusal(bytes, y.len() == 176, in_domain(n, k), true, own)
+    let room = y.len() == 176;
+    if w.sized(bytes, room) {
+        let own = own_write(y, n, k);
+        return w.refusal(bytes, room, in_domain(n, k), true, own);
+    }
+    2
 }

@@ -30,7 +30,8 @@ pub fn tell_of(total: u32, rng: u32) -> u32
     if l < total { total - l } else { 0 }
 }
 
-// Entry k is the last r to which three truncated squarings give at most k eighths: k + 1 begin one above it (proofs/Logs.antt, `upto-entry` and `above-entry`).
+// Entry k is the last r to which three truncated squarings give at most k eighths: one above it they give more (proofs/Logs.antt, `upto-entry`
+// and `above-entry`).
 const CORRECTION: [u32; 8] = [35733, 38967, 42495, 46340, 50535, 55109, 60097, 65535];
 
 // The three digits after the point of the logarithm of r / 2^15.

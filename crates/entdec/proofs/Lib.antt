@@ -5,6 +5,7 @@ pub mod RawBits
 pub mod Pulls
 pub mod Uniform
 pub mod Accepted
+pub mod Lengths
 pub mod Answers
 pub mod Found
 pub mod Steps

@@ -91,8 +91,7 @@ impl Reader {
         ensures { λ r.
             ⌜ r ≡ answer (refusalR (table (now (t .entry)) ftb) (now (s .entry)) self) (readSym (table (now (t .entry)) ftb) (now (s .entry)) self) ⌝ }
     {
-        let falls = entcode::table::table_ok(t, ftb);
-        let n = self.refusal(s.len(), 0 < t.len(), (1 <= ftb) & (ftb <= 8), falls, 0);
+        let n = self.refusal_table(s.len(), t, ftb);
         if n == 0 {
             Answer::Got(self.symbol(s, t, ftb))
         } else {

@@ -3,6 +3,7 @@ pub mod Shifts
 pub mod Forms
 pub mod Tails
 pub mod Taken
+pub mod Lengths
 pub mod Chain
 pub mod Stays
 pub mod Sticky

@@ -114,12 +114,6 @@ close-taken w z =
 
 -- ---- a gate that a test of its own goes into
 
-pub table-gate : (n v : ℕ) (l : List ℕ) (k : ℕ) (w : Wr) (t : Bool)
-    → n ≡ writeRefusal (length (w .bytes)) (w .st) (ltb 0 (length l)) (leb 1 k && leb k 8 && ltb v (length l)) t 0
-    → t ≡ falls (2 ^ k) l → n ≡ refusalW (table l k) v w
-unfolding refusalW lengthOk shapeOk valueOk listOk
-table-gate n v l k w t e f = e ∙ rw f
-
 pub raw-gate : (n v b : ℕ) (w : Wr) (t : Bool)
     → n ≡ writeRefusal (length (w .bytes)) (w .st) true (leb 1 b && leb b 25 && t) true 0
     → t ≡ ltb v (2 ^ b) → n ≡ refusalW (raw b) v w

@@ -1,9 +1,11 @@
 // What a write or a close is refused with: document 01, "When the answer is no".
 ghost use mathlib.Core.Path.{_≡_};
-ghost use mathlib.Core.Bool.{true};
+ghost use mathlib.Core.Bool.{true, _&&_};
 ghost use Prim.Native.Nat.{_^_};
-ghost use lib.Dec.{ltb, eqb};
+ghost use lib.Dec.{ltb, leb, eqb};
+ghost use lib.ListN.{length};
 ghost use Rattle.entcode.specs.Refusal.{refusal};
+ghost use Rattle.entcode.specs.Sym.{falls};
 ghost use Rattle.entenc.specs.Rule.{writerOk, isLive, writeRefusal};
 use super::Writer;
 
@@ -22,24 +24,38 @@ impl Writer {
             & (self.ext <= 65535)
     }
 
+    // Are n lent bytes as many as the state has, and the call's other lengths right? Asked before an entry of a list is read.
+    pub fn sized(self, n: usize, lengths: bool) -> bool
+        ensures { λ r. ⌜ r ≡ (eqb (self .sink .storage) n && lengths) ⌝ }
+    {
+        let s = self.sink;
+        (s.storage as usize == n) & lengths
+    }
+
     // The number of the refusal of a call that can write symbols, 0 for none. n bytes are lent; lengths, numbers, lists and own are what
     // the call found of its own.
     pub fn refusal(self, n: usize, lengths: bool, numbers: bool, lists: bool, own: u32) -> u32
         ensures { λ r. ⌜ r ≡ writeRefusal n self lengths numbers lists own ⌝ }
     {
         let s = self.sink;
-        let storage = s.storage as usize;
         let live = !self.closed;
         let told = entcode::tell_ok(s.storage, self.total, self.rng);
         let sound = self.sound();
-        entcode::refusal_of(
-            (storage == n) & lengths,
-            sound & numbers,
-            lists,
-            own,
-            live,
-            told,
-        )
+        let sized = self.sized(n, lengths);
+        entcode::refusal_of(sized, sound & numbers, lists, own, live, told)
+    }
+
+    // The number of the refusal of writing the symbol s of a table, 0 for none. The table is read once every length is right.
+    pub fn refusal_table(self, n: usize, s: u32, t: &[u8], ftb: u32) -> u32
+        ensures { λ r. ⌜ r ≡ writeRefusal n self (ltb 0 (length (now (t .entry)))) (leb 1 ftb && leb ftb 8 && ltb s (length (now (t .entry)))) (falls (2 ^ ftb) (now (t .entry))) 0 ⌝ }
+    {
+        let some = 0 < t.len();
+        if self.sized(n, some) {
+            let ok = (1 <= ftb) & (ftb <= 8) & ((s as usize) < t.len());
+            let falls = entcode::table::table_ok(t, ftb);
+            return self.refusal(n, some, ok, falls, 0);
+        }
+        2
     }
 
     // The number of the refusal of a close, 0 for none.

@@ -105,9 +105,7 @@ impl Writer {
     pub fn icdf(self, buf: &mut [u8], s: u32, t: &[u8], ftb: u32) -> Answer
         ensures { λ r. ⌜ after r (now (buf .exit)) ≡ writing (table (now (t .entry)) ftb) s (wr self (now (buf .entry))) ⌝ }
     {
-        let ok = (1 <= ftb) & (ftb <= 8) & ((s as usize) < t.len());
-        let falls = entcode::table::table_ok(t, ftb);
-        let no = self.refusal(buf.len(), 0 < t.len(), ok, falls, 0);
+        let no = self.refusal_table(buf.len(), s, t, ftb);
         if no == 0 {
             let w = self.put_icdf(buf, s, t, ftb);
             Answer::Next(w)

@@ -31,7 +31,7 @@ pub fn fines_ok(fine: &[i32], priorities: &[i32]) -> bool
     list_ok(fine, 0, 8) & list_ok(priorities, 0, 1)
 }
 
-// The number of the refusal of a coarse decode of so many bytes, 0 for none.
+// The number of the refusal of a coarse decode of so many bytes, 0 for none. The energies are read once every length is right.
 pub fn refusal_coarse(
     d: Reader,
     bytes: usize,
@@ -45,12 +45,16 @@ pub fn refusal_coarse(
     ensures { λ r.
         ⌜ r ≡ readRefusal bytes d (energiesSized (length (now (energies .entry)))) (coarseOk c lm start end intra) (energiesOk (now (energies .entry))) 0 ⌝ }
 {
-    let known = coarse_ok(c, lm, start, end, intra);
-    let finite = all_finite(energies);
-    d.refusal(bytes, energies.len() == 42, known, finite, 0)
+    let length = energies.len() == 42;
+    if d.sized(bytes, length) {
+        let known = coarse_ok(c, lm, start, end, intra);
+        let finite = all_finite(energies);
+        return d.refusal(bytes, length, known, finite, 0);
+    }
+    2
 }
 
-// The number of the refusal of spending the last bits, 0 for none.
+// The number of the refusal of spending the last bits, 0 for none, in the same way.
 pub fn refusal_finalise(
     d: Reader,
     bytes: usize,
@@ -67,8 +71,11 @@ pub fn refusal_finalise(
         (bandsOk c start end) (energiesOk (now (energies .entry)) && finesOk (now (fine .entry)) (now (priorities .entry))) 0 ⌝ }
 {
     let lengths = (energies.len() == 42) & (fine.len() == 21) & (priorities.len() == 21);
-    let known = bands_ok(c, start, end);
-    let finite = all_finite(energies);
-    let entries = fines_ok(fine, priorities);
-    d.refusal(bytes, lengths, known, finite & entries, 0)
+    if d.sized(bytes, lengths) {
+        let known = bands_ok(c, start, end);
+        let finite = all_finite(energies);
+        let entries = fines_ok(fine, priorities);
+        return d.refusal(bytes, lengths, known, finite & entries, 0);
+    }
+    2
 }

@@ -51,7 +51,7 @@ pub fn entries_ok(offsets: &[i32], caps: &[i32]) -> bool
     list_ok(offsets, 0, 81600) & list_ok(caps, 0, 32767)
 }
 
-// The number of the refusal of reading, 0 for none, of so many bytes and lists of so many entries.
+// The number of the refusal of reading, 0 for none, of so many bytes and lists of so many entries. A list is read once every length is right.
 pub fn refusal_read(
     d: Reader,
     bytes: usize,
@@ -65,12 +65,15 @@ pub fn refusal_read(
     ensures { λ r. ⌜ r ≡ readRefusal bytes d (lengthsOk (length (now (offsets .entry))) (length (now (caps .entry))) pulses fine priorities) (numbersOk q) (entriesOk (now (offsets .entry)) (now (caps .entry))) 0 ⌝ }
 {
     let lengths = lengths_ok(offsets.len(), caps.len(), pulses, fine, priorities);
-    let known = numbers_ok(q);
-    let entries = entries_ok(offsets, caps);
-    d.refusal(bytes, lengths, known, entries, 0)
+    if d.sized(bytes, lengths) {
+        let known = numbers_ok(q);
+        let entries = entries_ok(offsets, caps);
+        return d.refusal(bytes, lengths, known, entries, 0);
+    }
+    2
 }
 
-// The number of the refusal of writing, 0 for none.
+// The number of the refusal of writing, 0 for none, in the same way.
 pub fn refusal_write(
     w: Writer,
     bytes: usize,
@@ -86,8 +89,11 @@ pub fn refusal_write(
     ensures { λ r. ⌜ r ≡ writeRefusal bytes w (lengthsOk (length (now (offsets .entry))) (length (now (caps .entry))) pulses fine priorities) (numbersOk q && stereoOk q intensity dual) (entriesOk (now (offsets .entry)) (now (caps .entry))) 0 ⌝ }
 {
     let lengths = lengths_ok(offsets.len(), caps.len(), pulses, fine, priorities);
-    let known = numbers_ok(q);
-    let stereo = stereo_ok(q, intensity, dual);
-    let entries = entries_ok(offsets, caps);
-    w.refusal(bytes, lengths, known & stereo, entries, 0)
+    if w.sized(bytes, lengths) {
+        let known = numbers_ok(q);
+        let stereo = stereo_ok(q, intensity, dual);
+        let entries = entries_ok(offsets, caps);
+        return w.refusal(bytes, lengths, known & stereo, entries, 0);
+    }
+    2
 }

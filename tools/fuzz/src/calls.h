@@ -61,7 +61,7 @@ extern uint64_t agreed, not_closed, refused_by[4];
 /* One call: what it answered, which must be `want`. */
 void enter(enum which call);
 uint32_t leave(uint32_t answer, uint32_t want);
-#define CALL(name, want, ...) (enter(CALL_##name), leave(celt_##name(__VA_ARGS__), want))
+#define CALL(name, want, ...) (enter(CALL_##name), hide((want) == 2), leave(celt_##name(__VA_ARGS__), want))
 
 /* What is left is as it must be. */
 #define MUST(test)                                                                                                                          \

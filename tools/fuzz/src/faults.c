@@ -12,7 +12,8 @@ static volatile uint8_t sink;
 uint32_t __wrap_celt_dec_bits(int64_t *state, size_t state_n, const uint8_t *packet, size_t packet_n, uint32_t n, uint32_t *value, size_t value_n) {
     static unsigned count;
     uint32_t answer = __real_celt_dec_bits(state, state_n, packet, packet_n, n, value, value_n);
-    if (++count % 300 != 0)
+    /* where a length is wrong most lists cannot be read at all: one fault is for that, and the others are for the rest */
+    if (++count % 300 != 0 || (answer == 2) != (FAULT == 15))
         return answer;
     switch (FAULT) {
     case 1: /* reads past the end: often enough a page that cannot be read */
@@ -56,6 +57,10 @@ uint32_t __wrap_celt_dec_bits(int64_t *state, size_t state_n, const uint8_t *pac
         break;
     case 13:
     case 14: /* faults of the other call */
+        break;
+    case 15: /* reads an entry although a length is wrong */
+        if (packet_n > 0)
+            sink = packet[0];
         break;
     default:
         abort();

@@ -13,6 +13,7 @@ enum { MOST = 10, PAGE = 4096, GUARD = 64, MARK = 0xa7 };
 static struct lent lists[MOST];
 static size_t used;
 static unsigned char *ours[MOST], *theirs[MOST]; /* the same memory, to write to and to read only */
+static unsigned char *nowhere;                   /* a page that can be neither read nor written */
 
 static unsigned char *mapped(int fd, int may, size_t slot) {
     unsigned char *whole = mmap(NULL, ROOM + 2 * PAGE, PROT_NONE, MAP_PRIVATE | MAP_ANONYMOUS, -1, 0);
@@ -34,6 +35,7 @@ static void map_all(void) {
         ours[i] = mapped(fd, PROT_READ | PROT_WRITE, i);
         theirs[i] = mapped(fd, PROT_READ, i);
     }
+    nowhere = ours[0] + ROOM;
 }
 
 /* How many bytes before and after a list are looked at: as many as there is room for, at most GUARD. */
@@ -78,6 +80,19 @@ void may_change(struct lent *list, size_t from, size_t to) {
     list->part[list->parts][0] = from;
     list->part[list->parts][1] = to;
     list->parts++;
+}
+
+/* A list that a call reads to know the lengths, of its right length. */
+static int tells_lengths(const struct lent *l) {
+    return (strcmp(l->name, "state") == 0 && l->count == 12) || (strcmp(l->name, "energies") == 0 && l->count == 42) ||
+           (strcmp(l->name, "next") == 0 && l->count == 1) || strcmp(l->name, "symbols") == 0;
+}
+
+void hide(int wrong_length) {
+    size_t i;
+    for (i = 0; wrong_length && i < used; i++)
+        if (!tells_lengths(&lists[i]))
+            lists[i].given = nowhere;
 }
 
 void take_back(void) {

@@ -1,10 +1,15 @@
-use mathlib.Core.Path.{_∙_}
+-- `cwrs::gate::refusal_write`: the lengths, and then the tests in the order of the refusals. Assumes nothing.
+use mathlib.Core.Path.{sym, _∙_}
 use denote.Ref.{now}
 use Rattle.cwrs.specs.Answer.{inDomain, isRoom, ownWrite}
 use Rattle.cwrs.proofs.Refusing.{late-write}
 use borrow.Author.Needs.{needs}
+use Rattle.entenc.proofs.Lengths.{wrong-lengths}
 use Rattle.cwrs.proofs.gate.refusal_write.Statement.{statement}
 use Rattle.cwrs.proofs.gate.refusal_write.Tie as tie
+
+sized-requires : tie.Need-sized-requires
+sized-requires c κs = search needs
 
 own-write-requires : tie.Need-own-write-requires
 own-write-requires c κs = search needs
@@ -17,12 +22,16 @@ refusal-requires c κs = search needs
 
 returns : tie.Need-returns
 returns c =
-    let a = c .before .before .before .args in
+    let a = c .before .before .before .before .before .args in
     let y = now (a .y) in
     c .refusal .ensures
     ∙ late-write (a .bytes) (a .w) (isRoom y) (inDomain (a .n) (a .k)) (ownWrite y (a .n) (a .k)) (c .before .in-domain .ensures)
     (c .before .before .own-write .ensures)
 
+returns-2 : tie.Need-returns-2
+returns-2 c = sym (wrong-lengths _ _ _ _ _ _ (sym (c .before .sized .ensures) ∙ c .if1 .left))
+
 pub refusal-write-spec : {M : Type 1} → statement M
 refusal-write-spec =
-    tie.close (tie.spec own-write-requires in-domain-requires refusal-requires returns)
+    tie.close
+    (tie.spec sized-requires own-write-requires in-domain-requires refusal-requires returns returns-2)

@@ -13,22 +13,19 @@ use borrow.Author.Needs.{needs}
 use Rattle.entdec.proofs.Reader.icdf.Statement.{statement}
 use Rattle.entdec.proofs.Reader.icdf.Tie as tie
 
-table-ok-requires : tie.Need-table-ok-requires
-table-ok-requires c κs = search needs
-
-refusal-requires : tie.Need-refusal-requires
-refusal-requires c κs = search needs
+refusal-table-requires : tie.Need-refusal-table-requires
+refusal-table-requires c κs = search needs
 
 -- the gate's number, in the contract's terms
-gated : (c : tie.After-refusal) → let a = c .before .before .before .before .args in
-    c .refusal .result ≡ refusalR (table (now (a .t)) (a .ftb)) (now (a .s)) (a .self)
+gated : (c : tie.After-refusal-table) → let a = c .before .before .before .args in
+    c .refusal-table .result ≡ refusalR (table (now (a .t)) (a .ftb)) (now (a .s)) (a .self)
 unfolding refusalR lengthOk shapeOk listOk
-gated c = rw (c .before .table-ok .ensures) at (c .refusal .ensures)
+gated c = c .refusal-table .ensures
 
 symbol-requires : tie.Need-symbol-requires
 unfolding lengthOk shapeOk listOk
 symbol-requires c κs =
-    let a = c .before .before .before .before .before .args in
+    let a = c .before .before .before .before .args in
     let o = opened-for (table (now (a .t)) (a .ftb)) (now (a .s)) (a .self) (sym (gated (c .before)) ∙ c .if1 .taken) in
     (sound-ready 1 (a .self) (o .state) (lit≤ tt), (between 1 (a .ftb) 8 (o .known), (ltb-true 0 _ (o .sizes), o .entries)))
 
@@ -44,4 +41,4 @@ returns-2 c =
 
 pub icdf-spec : {M : Type 1} → statement M
 icdf-spec =
-    tie.close (tie.spec table-ok-requires refusal-requires symbol-requires returns returns-2)
+    tie.close (tie.spec refusal-table-requires symbol-requires returns returns-2)

@@ -9,17 +9,17 @@ tell-ok-requires c κs = search needs
 sound-requires : tie.Need-sound-requires
 sound-requires c κs = search needs
 
-cast-refusal-of : tie.Need-cast-refusal-of
-cast-refusal-of c = search needs
+sized-requires : tie.Need-sized-requires
+sized-requires c κs = search needs
 
 refusal-of-requires : tie.Need-refusal-of-requires
 refusal-of-requires c κs = search needs
 
 returns : tie.Need-returns
 unfolding readRefusal
-returns c = rw (c .refusal-of .ensures, c .before .before .sound .ensures, c .before .before .before .tell-ok .ensures)
+returns c = rw (c .refusal-of .ensures, c .before .sized .ensures, c .before .before .sound .ensures, c .before .before .before .tell-ok .ensures)
 
 pub refusal-spec : {M : Type 1} → statement M
 refusal-spec =
     tie.close
-    (tie.spec tell-ok-requires sound-requires cast-refusal-of refusal-of-requires returns)
+    (tie.spec tell-ok-requires sound-requires sized-requires refusal-of-requires returns)

@@ -1,11 +1,16 @@
--- `rate::gate::refusal_write`: the tests, in the order of the refusals. Assumes nothing.
+-- `rate::gate::refusal_write`: the lengths, and then the tests in the order of the refusals. Assumes nothing.
+use mathlib.Core.Path.{sym, _∙_}
 use mir.Facts.{toZ-ofZ}
 use borrow.Author.Needs.{needs}
+use Rattle.entenc.proofs.Lengths.{wrong-lengths}
 use Rattle.rate.proofs.gate.refusal_write.Statement.{statement}
 use Rattle.rate.proofs.gate.refusal_write.Tie as tie
 
 lengths-ok-requires : tie.Need-lengths-ok-requires
 lengths-ok-requires c κs = search needs
+
+sized-requires : tie.Need-sized-requires
+sized-requires c κs = search needs
 
 numbers-ok-requires : tie.Need-numbers-ok-requires
 numbers-ok-requires c κs = search needs
@@ -21,17 +26,25 @@ refusal-requires c κs = search needs
 
 returns : tie.Need-returns
 returns c =
-    let p = c .before .before .before .before in
+    let p = c .before .before .before .before .before .before in
     let t = rw (toZ-ofZ (p .before .fits .intensity), toZ-ofZ (p .before .fits .dual)) at (c .before .before .stereo-ok .ensures) in
     rw (p .lengths-ok .ensures, c .before .before .before .numbers-ok .ensures, t, c .before .entries-ok .ensures) at (c .refusal .ensures)
+
+returns-2 : tie.Need-returns-2
+returns-2 c =
+    let l = c .before .before .lengths-ok .ensures in
+    let t = rw l at (c .before .sized .ensures) in
+    sym (wrong-lengths _ _ _ _ _ _ (sym t ∙ c .if1 .left))
 
 pub refusal-write-spec : {M : Type 1} → statement M
 refusal-write-spec =
     tie.close
     (tie.spec
     lengths-ok-requires
+    sized-requires
     numbers-ok-requires
     stereo-ok-requires
     entries-ok-requires
     refusal-requires
-    returns)
+    returns
+    returns-2)
