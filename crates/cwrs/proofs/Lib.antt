@@ -3,4 +3,3 @@ pub mod Back
 pub mod Inverse
 pub mod Refusing
 pub mod Answers
-pub mod Figures

@@ -1,0 +1,6 @@
+-- The statements of specs, proved.
+pub mod Accepted
+pub mod Entries
+pub mod Finalise
+pub mod Figures
+pub mod Frames
