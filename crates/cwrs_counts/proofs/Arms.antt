@@ -7,7 +7,8 @@ use native.Mathlib.Omega.{arith}
 use lib.Dec.{leb}
 use lib.ListN.{length, drop, drop-of-length-le, List·getD-eq-default}
 use borrow.Author.Tests.{leb-true}
-use Rattle.cwrs_counts.specs.Rows.{lens, lenAt, rowAt, pairOf, pairAt}
+use Rattle.cwrs_counts.specs.Table.{counts}
+use Rattle.cwrs_counts.specs.Rows.{rowAt, lenAt, pairOf, pairAt}
 
 -- an arm of a row: g is its number
 pub hit : (a g : ℕ) {k w : ℕ} → g ≡ k → w ≡ pairAt a k → w ≡ pairAt a g
@@ -48,5 +49,5 @@ missed a m t g b =
 
 -- the last arm of the lengths
 pub no-row : (a : ℕ) → Besides (Unit {0}) 0 15 a → 0 ≡ lenAt a
-unfolding lens
-no-row a b = sym (List·getD-eq-default lens 0 {n = a} (past 15 (Unit {0}) 0 a b (omega arith)))
+unfolding counts
+no-row a b = sym (ap (λ (r : List ℕ). length r) (List·getD-eq-default counts [] {n = a} (past 15 (Unit {0}) 0 a b (omega arith))))

@@ -10,35 +10,18 @@ use lib.Dec.{eqb, leb, ltb, lit<, lit≤}
 use lib.ListN.{length, getD, drop, List·getD-eq-default}
 use lib.Seq.{getD-drop}
 use borrow.Author.Tests.{lt-ltb, le-ltb, eqb-true, eqb-false, leb-true, ltb-true}
-use Rattle.laws.proofs.Tables.{run, below-at}
 use Rattle.laws.proofs.Tests.{split-on, by-le}
 use Rattle.cwrs_counts.specs.Count.{U}
-use Rattle.cwrs_counts.specs.Rows.{lens, lenAt, rowAt, pairAt}
+use Rattle.cwrs_counts.specs.Table.{counts, zerosObey, firstObeys, restObeys, rowObeys, rowsObey, obeys}
+use Rattle.cwrs_counts.specs.Rows.{rowAt, lenAt, pairAt}
 use Rattle.cwrs_counts.proofs.Recurrence.{U-00, U-0s, U-s0, U-s1, U-ss, U-sym, up-le, both-le}
 
--- ---- the test: an entry is the sum of its three neighbours and fits 32 bits; past a row's end the next count would not fit, or b is 177
+-- ---- the one test over the whole table
 
--- a row from place k + 1 on, against the row before it; a and b are the two rows' entries at k
-abbrev okRest : ℕ → ℕ → ℕ → List ℕ → List ℕ → Bool
-okRest k a b [] [] = eqb k 176
-okRest k a b [] (x ∷ xs) = false
-okRest k a b (p ∷ ps) [] = leb 4294967296 (p + b + a)
-okRest k a b (p ∷ ps) (x ∷ xs) = eqb x (p + b + a) && ltb x 4294967296 && okRest (suc k) p x ps xs
-
--- a row against the row before it: its first entry is 0
-abbrev okRow : List ℕ → List ℕ → Bool
-okRow [] r = false
-okRow (p ∷ ps) [] = false
-okRow (p ∷ ps) (x ∷ xs) = eqb x 0 && okRest 0 p x ps xs
-
--- row 0: a 1, and zeros
-abbrev okZeros : List ℕ → Bool
-okZeros [] = true
-okZeros (x ∷ xs) = eqb x 0 && okZeros xs
-
-abbrev okFirst : List ℕ → Bool
-okFirst [] = false
-okFirst (x ∷ xs) = eqb x 1 && okZeros xs
+-- every stored entry obeys the recurrence
+pub recurrence : obeys counts ≡ true
+unfolding counts
+recurrence = refl
 
 -- ---- what the test tells of a row
 
@@ -51,43 +34,82 @@ IsRow n k (x ∷ xs) = (x ≡ U n k) × (x < 4294967296) × IsRow n (suc k) xs
 abbrev End : ℕ → ℕ → Type 0
 End n e = (e ≡ 177) ⊎ (4294967296 ≤ U n e)
 
-rest : (n k : ℕ) (ps xs : List ℕ) → IsRow n (suc k) ps → (a b : ℕ) → a ≡ U n k → b ≡ U (suc n) k → okRest k a b ps xs ≡ true
+-- the rest of a row below a row of counts is one
+rest : (n k : ℕ) (ps xs : List ℕ) → IsRow n (suc k) ps → (a b : ℕ) → a ≡ U n k → b ≡ U (suc n) k → restObeys k a b ps xs ≡ true
     → IsRow (suc n) (suc k) xs × End (suc n) (suc k + length xs)
 rest n k [] [] h a b ea eb t = (tt, inl (omega (arith, eqb-true k 176 t)))
 rest n k [] (x ∷ xs) h a b ea eb t = absurd (false≢true t)
 rest n k (p ∷ ps) [] h a b ea eb t =
     (tt, inr (omega (arith, leb-true 4294967296 (p + b + a) t, h .0, U-ss n k, ap (U (suc n)) (add-zero (suc k)))))
 rest n k (p ∷ ps) (x ∷ xs) h a b ea eb t =
-    let s = and-eq-true-iff (eqb x (p + b + a) && ltb x 4294967296) (okRest (suc k) p x ps xs) .0 t in
+    let s = and-eq-true-iff (eqb x (p + b + a) && ltb x 4294967296) (restObeys (suc k) p x ps xs) .0 t in
     let f = and-eq-true-iff (eqb x (p + b + a)) (ltb x 4294967296) .0 (s .0) in
     let q : x ≡ U (suc n) (suc k) = omega (arith, eqb-true x (p + b + a) (f .0), h .0, U-ss n k) in
     let r = rest n (suc k) ps xs (h .2) p x (h .0) q (s .1) in
     ((q, ltb-true x 4294967296 (f .1), r .0), subst (λ (e : ℕ). End (suc n) e) (omega (arith, add-suc k (length xs))) (r .1))
 
-row : (n : ℕ) (p r : List ℕ) → IsRow n 0 p → okRow p r ≡ true → IsRow (suc n) 0 r × End (suc n) (length r)
+-- and so is the whole row
+row : (n : ℕ) (p r : List ℕ) → IsRow n 0 p → rowObeys p r ≡ true → IsRow (suc n) 0 r × End (suc n) (length r)
 row n [] r h t = absurd (false≢true t)
 row n (p ∷ ps) [] h t = absurd (false≢true t)
 row n (p ∷ ps) (x ∷ xs) h t =
-    let s = and-eq-true-iff (eqb x 0) (okRest 0 p x ps xs) .0 t in
+    let s = and-eq-true-iff (eqb x 0) (restObeys 0 p x ps xs) .0 t in
     let z = eqb-true x 0 (s .0) in
     let q : x ≡ U (suc n) 0 = z ∙ sym (U-s0 n) in
     let r = rest n 0 ps xs (h .2) p x (h .0) q (s .1) in
     ((q, omega arith, r .0), subst (λ (e : ℕ). End (suc n) e) (omega arith) (r .1))
 
-zeros : (k : ℕ) (xs : List ℕ) → okZeros xs ≡ true → IsRow 0 (suc k) xs
-zeros k [] t = tt
+-- the zeros of row 0
+zeros : (k : ℕ) (xs : List ℕ) → zerosObey k xs ≡ true → IsRow 0 (suc k) xs × (suc k + length xs ≡ 177)
+zeros k [] t = (tt, omega (arith, eqb-true k 176 t))
 zeros k (x ∷ xs) t =
-    let s = and-eq-true-iff (eqb x 0) (okZeros xs) .0 t in
+    let s = and-eq-true-iff (eqb x 0) (zerosObey (suc k) xs) .0 t in
     let z = eqb-true x 0 (s .0) in
-    (z ∙ sym (U-0s k), omega arith, zeros (suc k) xs (s .1))
+    let r = zeros (suc k) xs (s .1) in
+    ((z ∙ sym (U-0s k), omega arith, r .0), omega (arith, r .1))
 
-first : (r : List ℕ) → okFirst r ≡ true → IsRow 0 0 r
+-- row 0
+first : (r : List ℕ) → firstObeys r ≡ true → IsRow 0 0 r × End 0 (length r)
 first [] t = absurd (false≢true t)
 first (x ∷ xs) t =
-    let s = and-eq-true-iff (eqb x 1) (okZeros xs) .0 t in
+    let s = and-eq-true-iff (eqb x 1) (zerosObey 0 xs) .0 t in
     let z = eqb-true x 1 (s .0) in
-    (z ∙ sym U-00, omega arith, zeros 0 xs (s .1))
+    let r = zeros 0 xs (s .1) in
+    ((z ∙ sym U-00, omega arith, r .0), inl (omega (arith, r .1)))
 
+-- ---- what it tells of the table
+
+-- the rows rs are rows n, n + 1, .. of the counts
+abbrev AreRows : ℕ → List (List ℕ) → Type 0
+AreRows n [] = Unit {0}
+AreRows n (r ∷ rs) = IsRow n 0 r × End n (length r) × AreRows (suc n) rs
+
+-- each row follows from the one above it
+rows-below : (n : ℕ) (p : List ℕ) (rs : List (List ℕ)) → IsRow n 0 p → rowsObey p rs ≡ true → AreRows (suc n) rs
+rows-below n p [] h t = tt
+rows-below n p (r ∷ rs) h t =
+    let s = and-eq-true-iff (rowObeys p r) (rowsObey r rs) .0 t in
+    let q = row n p r h (s .0) in
+    (q .0, q .1, rows-below (suc n) r rs (q .0) (s .1))
+
+-- what the test over a whole table tells
+all-rows : (l : List (List ℕ)) → obeys l ≡ true → AreRows 0 l
+all-rows [] t = absurd (false≢true t)
+all-rows (r ∷ rs) t =
+    let s = and-eq-true-iff (firstObeys r) (rowsObey r rs) .0 t in
+    let q = first r (s .0) in
+    (q .0, q .1, rows-below 0 r rs (q .0) (s .1))
+
+-- one row of them
+row-of : (n : ℕ) (l : List (List ℕ)) → AreRows n l → (a : ℕ) → a < length l
+    → IsRow (n + a) 0 (getD l a []) × End (n + a) (length (getD l a []))
+row-of n [] h a q = absurd (not-suc-le-zero q)
+row-of n (r ∷ rs) h zero q = rw (add-zero n) (h .0, h .1)
+row-of n (r ∷ rs) h (suc a) q =
+    let e : n + suc a ≡ suc n + a = omega arith in
+    rw e (row-of (suc n) rs (h .2) a (le-of-suc-le-suc q))
+
+-- one entry of a row
 entry-of : (n k : ℕ) (l : List ℕ) → IsRow n k l → (j : ℕ) → j < length l → (getD l j 0 ≡ U n (k + j)) × (getD l j 0 < 4294967296)
 entry-of n k [] h j q = absurd (not-suc-le-zero q)
 entry-of n k (x ∷ xs) h zero q = (h .0 ∙ ap (U n) (sym (add-zero k)), h .1)
@@ -95,52 +117,30 @@ entry-of n k (x ∷ xs) h (suc j) q =
     let r = entry-of n (suc k) xs (h .2) j (le-of-suc-le-suc q) in
     (r .0 ∙ ap (U n) (suc-add k j ∙ sym (add-suc k j)), r .1)
 
--- ---- the one test over the whole table, and the one lemma
+-- ---- the one lemma
 
-abbrev okLen : ℕ → Bool
-okLen a = eqb (length (rowAt a)) (lenAt a)
+-- row 14 is the last
+last-row : length counts ≡ 15
+unfolding counts
+last-row = refl
 
-abbrev okNext : ℕ → Bool
-okNext a = okRow (rowAt a) (rowAt (suc a)) && okLen (suc a)
-
-rule : (okFirst (rowAt 0) && okLen 0 && run okNext 0 14) ≡ true
-unfolding lens rowAt
-rule = refl
-
-record Row (a : ℕ) : Type 0 where
-  pub is : IsRow a 0 (rowAt a)
-  pub size : length (rowAt a) ≡ lenAt a
-
-rows : (a : ℕ) → a ≤ 14 → Row a
-rows zero h =
-    let s = and-eq-true-iff (okFirst (rowAt 0)) (okLen 0) .0 (and-eq-true-iff (okFirst (rowAt 0) && okLen 0) (run okNext 0 14) .0 rule .0) in
-    record { is = first (rowAt 0) (s .0); size = eqb-true (length (rowAt 0)) (lenAt 0) (s .1) }
-rows (suc a) h =
-    let t = below-at okNext 14 (and-eq-true-iff (okFirst (rowAt 0) && okLen 0) (run okNext 0 14) .0 rule .1) a h in
-    let s = and-eq-true-iff (okRow (rowAt a) (rowAt (suc a))) (okLen (suc a)) .0 t in
-    let r = row a (rowAt a) (rowAt (suc a)) (rows a (omega arith) .is) (s .0) in
-    record { is = r .0; size = eqb-true (length (rowAt (suc a))) (lenAt (suc a)) (s .1) }
-
-ends : (a : ℕ) → suc a ≤ 14 → End (suc a) (lenAt (suc a))
-ends a h =
-    let t = below-at okNext 14 (and-eq-true-iff (okFirst (rowAt 0) && okLen 0) (run okNext 0 14) .0 rule .1) a h in
-    let s = and-eq-true-iff (okRow (rowAt a) (rowAt (suc a))) (okLen (suc a)) .0 t in
-    subst (λ (e : ℕ). End (suc a) e) (rows (suc a) h .size) (row a (rowAt a) (rowAt (suc a)) (rows a (omega arith) .is) (s .0) .1)
+-- row a of the table, and where it ends
+rows : (a : ℕ) → a ≤ 14 → IsRow a 0 (rowAt a) × End a (lenAt a)
+rows a h =
+    let e : 0 + a ≡ a = omega arith in
+    rw e at (row-of 0 counts (all-rows counts recurrence) a (omega (arith, last-row)))
 
 -- every stored entry is the count of its row and place, and fits 32 bits
 pub value : (a b : ℕ) → a ≤ 14 → b < lenAt a → (getD (rowAt a) b 0 ≡ U a b) × (U a b < 4294967296)
 value a b h q =
-    let r = rows a h in
-    let e = entry-of a 0 (rowAt a) (r .is) b (omega (arith, r .size)) in
+    let e = entry-of a 0 (rowAt a) (rows a h .0) b q in
     let z : 0 + b ≡ b = omega arith in
-    (e .0 ∙ ap (U a) z, omega (arith, e .1, ap (U a) z))
+    (e .0 ∙ ap (U a) z, omega (arith, e .1, e .0, ap (U a) z))
 
 -- what stands at a place, and past the row's end 0, fits too
 small : (a b : ℕ) → a ≤ 14 → getD (rowAt a) b 0 < 4294967296
 small a b h =
-    let r = rows a h in
-    by-le (lenAt a) b (λ l. rw (List·getD-eq-default (rowAt a) 0 {n = b} (omega (arith, r .size))) (lit< tt))
-    (λ l. entry-of a 0 (rowAt a) (r .is) b (omega (arith, r .size)) .1)
+    by-le (lenAt a) b (λ l. rw (List·getD-eq-default (rowAt a) 0 {n = b} l) (lit< tt)) (λ l. entry-of a 0 (rowAt a) (rows a h .0) b l .1)
 
 -- a pair's first number is its even place's, and the second its odd place's
 halves : (x y : ℕ) → x < 4294967296 → ((x + 4294967296 * y) % 4294967296 ≡ x) × ((x + 4294967296 * y) / 4294967296 ≡ y)
@@ -183,23 +183,22 @@ edge-none (suc (suc a)) b h g t = absurd (omega arith)
 -- ---- what is not stored does not fit
 
 no-length : (a : ℕ) → 15 ≤ a → lenAt a ≡ 0
-unfolding lens
-no-length a h = List·getD-eq-default lens 0 {n = a} h
+no-length a h = ap (λ (r : List ℕ). length r) (List·getD-eq-default counts [] {n = a} (omega (arith, last-row)))
 
 len-0 : lenAt 0 ≡ 177
-unfolding lens
+unfolding counts
 len-0 = refl
 
 pub absent : (a b : ℕ) → b ≤ 176 → a ≤ 14 → lenAt a ≤ b → 4294967296 ≤ U a b
 absent zero b q g l = omega (arith, len-0)
-absent (suc a) b q g l = ⊎-elim (λ e. omega arith) (λ e. le-trans e (up-le a l)) (ends a g)
+absent (suc a) b q g l = ⊎-elim (λ e. omega arith) (λ e. le-trans e (up-le a l)) (rows (suc a) g .1)
 
 U-14-14 : 1409933619 ≡ U 14 14
-unfolding lens rowAt
+unfolding counts
 U-14-14 = value 14 14 (lit≤ tt) (lit< tt) .0
 
 U-14-15 : 3256957317 ≡ U 14 15
-unfolding lens rowAt
+unfolding counts
 U-14-15 = value 14 15 (lit≤ tt) (lit< tt) .0
 
 U-15-15 : 4294967296 ≤ U 15 15

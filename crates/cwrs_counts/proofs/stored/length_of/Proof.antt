@@ -1,12 +1,12 @@
 -- `cwrs_counts::stored::length_of`: each arm has its row's length, and the last one is past the rows. Assumes nothing.
 use mathlib.Core.Path.{refl}
-use Rattle.cwrs_counts.specs.Rows.{lens}
+use Rattle.cwrs_counts.specs.Table.{counts}
 use Rattle.cwrs_counts.proofs.Arms.{long, no-row}
 use Rattle.cwrs_counts.proofs.stored.length_of.Statement.{statement}
 use Rattle.cwrs_counts.proofs.stored.length_of.Tie as tie
 
 pub length-of-spec : {M : Type 1} → statement M
-unfolding lens
+unfolding counts
 length-of-spec =
     tie.close
     (tie.spec
