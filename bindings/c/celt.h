@@ -198,8 +198,8 @@ uint32_t celt_record_frame(float *energies, size_t energies_n, uint64_t *next, s
 uint32_t celt_record_save(const float *energies, size_t energies_n, uint64_t next, uint8_t *buf, size_t buf_n, size_t *length,
                           size_t length_n);
 
-/* The record of a saved line, without its line feed: an E line, as saved, or a Q line. A malformed line is CELT_NUMBER, an energy that is not
- * finite CELT_ENTRY. */
+/* The record of a saved line, without its line feed: an E line, as saved, or a Q line. A malformed line is CELT_NUMBER, and so is,
+ * by its length alone, one of more than CELT_LINE bytes; an energy that is not finite is CELT_ENTRY. */
 uint32_t celt_record_restore(const uint8_t *line, size_t line_n, float *energies, size_t energies_n, uint64_t *next, size_t next_n);
 
 /* ---- the lister */

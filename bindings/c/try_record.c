@@ -224,6 +224,9 @@ static void lines(void) {
     /* 45 fields */
     n = line_of(line, "E", "0", "00000000\t00000000", "00000000");
     IS(celt_record_restore((const uint8_t *)line, n, LIST(energies), &next, 1), CELT_NUMBER);
+    /* more bytes than a line has are refused by their number alone, before one of them is read: there are not so many */
+    IS(celt_record_restore((const uint8_t *)line, (size_t)1 << 40, LIST(energies), &next, 1), CELT_NUMBER);
+    IS(next, 77);
 }
 
 static void listed(const char *line, uint32_t number, const char *answer) {
