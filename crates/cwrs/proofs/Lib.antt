@@ -3,4 +3,5 @@ pub mod Back
 pub mod Inverse
 pub mod Refusing
 pub mod Answers
+pub mod Said
 pub mod Figures

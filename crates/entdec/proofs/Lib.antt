@@ -5,7 +5,7 @@ pub mod RawBits
 pub mod Pulls
 pub mod Uniform
 pub mod Accepted
-pub mod Answers
+pub mod Said
 pub mod Found
 pub mod Steps
 pub mod Kept

@@ -1,5 +1,6 @@
 pub mod Exact
 pub mod Energies
 pub mod Placed
+pub mod Said
 pub mod Round
 pub mod Sound
