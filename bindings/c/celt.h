@@ -10,7 +10,8 @@
  *   - a list that the call may write to (one without const) overlaps no other list of the same call.
  *
  * A coder's state is a list of CELT_STATE numbers (enum celt_place); its bytes are lent beside it, to every call the same ones. A state may be
- * copied, stored and handed in again. A list of another length, or bytes of another count than the state's storage, is CELT_LENGTH.
+ * copied, stored and handed in again. A list of another length, or bytes of another count than the state's storage, is CELT_LENGTH; a storage
+ * that no count can be, one below 0 or of more than 32 bits, is unlike every count. Of a call that is lent no bytes it is CELT_NUMBER.
  */
 #ifndef CELT_H
 #define CELT_H

@@ -165,6 +165,22 @@ static const struct {
     READS(list), READS(round_trip),
 };
 
+/* The calls that are handed a state: what a storage is refused with that no count of bytes can be. Where bytes are lent it is unlike their count; tell is lent none. */
+static const struct {
+    const char *name;
+    int writes;
+    uint32_t (*call)(struct given *);
+    uint32_t answer;
+} stored[] = {
+#define STORED(name, writes) {#name, writes, name, CELT_LENGTH}
+#define TOLD(name, writes) {#name, writes, name, CELT_NUMBER}
+    STORED(dec_bit_logp, 0), STORED(dec_icdf, 0), STORED(dec_uint, 0), STORED(dec_bits, 0), TOLD(dec_tell, 0), TOLD(dec_tell_frac, 0),
+    STORED(enc_bit_logp, 1), STORED(enc_icdf, 1), STORED(enc_uint, 1), STORED(enc_bits, 1), STORED(enc_close, 1), TOLD(enc_tell, 1),
+    TOLD(enc_tell_frac, 1), STORED(laplace_decode, 0), STORED(laplace_encode, 1), STORED(decode_pulses, 0), STORED(encode_pulses, 1),
+    STORED(compute_allocation_read, 0), STORED(compute_allocation_write, 1), STORED(unquant_coarse_energy, 0),
+    STORED(unquant_energy_finalise, 0), STORED(alg_unquant, 0), STORED(record_frame, 0),
+};
+
 /* The answer is this one; a refusal leaves everything. */
 static void answers(const char *name, uint32_t (*call)(struct given *), struct given *g, uint32_t want) {
     static struct given before;
@@ -209,6 +225,18 @@ void try_order(void) {
                     memcpy((char *)&g + calls[i].wrong[j].place, &lent[k], sizeof lent[k]);
                     answers(calls[i].name, calls[i].call, &g, CELT_LENGTH);
                 }
+            }
+    }
+
+    for (i = 0; i < COUNT(stored); i++) {
+        static const int64_t storages[] = {-1, (int64_t)1 << 32, INT64_MIN};
+        static const size_t lent[] = {0, 1, BYTES};
+        size_t k;
+        for (j = 0; j < COUNT(storages); j++)
+            for (k = 0; k < COUNT(lent); k++) {
+                good(&g, stored[i].writes);
+                g.state[CELT_STORAGE] = storages[j], g.bytes_n = lent[k];
+                answers(stored[i].name, stored[i].call, &g, stored[i].answer);
             }
     }
 

@@ -415,7 +415,7 @@ def common(c, ps, nl):
         "iss": "".join(f"Is ({p.row()}) {p.name} ({p.mach} ∷ []) → " for p in ps.all),
         "isnames": "".join(f"is-{p.name} " for p in ps.all),
         "pass-args": "".join(f"(a{at(1 + i)}) " for i in range(len(ps.all))),
-        "said": c["said"] if lent else "r ≡ found",
+        "said": c["said"] if lent else f"{c['step_says']} r ≡ found",
         "step-of": c.get("step_of", ""),
     }
 
@@ -535,11 +535,11 @@ def lent(c):
     f0 = 1 if m2 else 0
     place = lambda base: lambda i: base + 2 * (n - 1 - i)
     zs = [f"(zs{at(2 + ps.all.index(p))})" for p in ps.lent]
-    said = c["said"] if m2 else "r ≡ found"
+    said = c["said"] if m2 else f"{c['step_says']} r ≡ found"
     said_z = said
     for i in range(m2):
         said_z = said_z.replace("z" + SUB[i], zs[i])
-    found = [f"abbrev found : {c['found_type'] if m2 else c['step']}", f"found = {h['result']}", ""]
+    found = [f"abbrev found : {c['found_type']}", f"found = {h['result']}", ""]
     w, y = [], lambda *l: w.extend(l)
     p = place(0)
     y(
@@ -578,7 +578,7 @@ def lent(c):
             "move ! (1 ∷ []) $ split ! $ move ! (1 ∷ []) $",
         )
     else:
-        y(f"split ! $ move ! (1 ∷ []) $ use1 W (raw (fact 𝓤 (r ≡ found))) (told 𝓤 H A g.ended {K1} {GA} (r ≡ found)) $ heard ! (r ≡ found) (λ e. split ! $ move ! (1 ∷ []) $")
+        y(f"split ! $ move ! (1 ∷ []) $ use1 W (raw (fact 𝓤 ({said}))) (told 𝓤 H A g.ended {K1} {GA} ({said})) $ heard ! ({said}) (λ e. split ! $ move ! (1 ∷ []) $")
     y("facts ! S.the-row (Is S.the-row) (shows 𝓤 H A S.the-row) r (u ∷ []) (λ is.")
     if m2:
         y("move ! (0 ∷ 2 ∷ 3 ∷ []) $")
@@ -736,13 +736,14 @@ def over(c):
             f"move ! (0 ∷ {p(d)} ∷ []) $ free1 !" if i == d else f"move ! ({p(i) - (i > d)} ∷ {p(i) + 1 - (i > d)} ∷ []) $ free1 !" for i in range(n)
         )
         + " $ free0 ! $",
-        f"join ! $ move ! (0 ∷ 2 ∷ []) $ by ! (exits (made k (zs .0 .num)) {''.join(z + ' ' for z in zs)}(pair-val u (num-val (zs .0 .num))) {c['ends'] if m2 else '(λ i. made (e .0 i) (e .1 i .num))'} {h['ls']}{result})",
+        f"join ! $ move ! (0 ∷ 2 ∷ []) $ by ! (exits (made k (zs .0 .num)) {''.join(z + ' ' for z in zs)}(pair-val u (num-val (zs .0 .num))) {c['ends'] if m2 else '(λ i. stepped (e .0 i) (e .1 i .num))'} {h['ls']}{result})",
     )
     z = h["zs"].strip()
     h.update(
         {
             "answer": c["answer"],
-            "found-type": c["found_type"] if m2 else c["step"],
+            "answer-says": c["answer_says"],
+            "found-type": c["found_type"],
             "found": h["result"],
             "valtypes": product(["List Val"] * m),
             "KC": KC,
@@ -820,7 +821,7 @@ def record(c):
         "move ! (5 ∷ 4 ∷ []) $ use2 W (raw (Callee 𝓤 H A at-mem run .pre to) ⊛ ‵ Kept) (apart was) $ split ! $",
         f"calls-at ! fm (Callee 𝓤 H A at-mem run) known to {operands([p(m + 3)] + passed_on(ps, p, 2, n))} (λ u.",
         f"use1 W (later (some (λ (r : {c['step']}). ({TK} ⊛ ‵ (S.the-row .own r (u ∷ []))) ⊛ raw (ensured 𝓤 H A g.ended (g.clauses 𝓤 H A at-mem run) {K1} {GA} tt r)))) (id⊢ 𝓤 _) $ await ! tt $ pick ! (λ r.",
-        "split ! $ move ! (1 ∷ []) $ use1 W (raw (fact 𝓤 (r ≡ found))) (said r) $ heard ! (r ≡ found) (λ e. split ! $ move ! (1 ∷ []) $",
+        f"split ! $ move ! (1 ∷ []) $ use1 W (raw (fact 𝓤 ({h['said']}))) (said r) $ heard ! ({h['said']}) (λ e. split ! $ move ! (1 ∷ []) $",
         "facts ! S.the-row (Is S.the-row) (shows 𝓤 H A S.the-row) r (u ∷ []) (λ is.",
         f"-- [the tokens; the others'; the record's cell; the open borrow; obs; auth; _{n - 1}; …; _1; …; room for _0; …]",
         f"land ! (from ! (stop !)) (init ! {p(m + 2)} refl (LL.lawful S.the-type S′.the-laws 𝓤 H A W .typed r _ is .0)) $ rewrite ! {p(m + 2)} (λ (w : Val). ‵ (fat fullShare S′.mir l{m + 2} 0 w)) (ap only (LL.tells S.the-type S′.the-laws r (u ∷ []) is)) refl $",
@@ -839,6 +840,9 @@ def record(c):
     h.update(
         {
             "struct": c["struct"],
+            "step-says": c["step_says"],
+            "answer-says": c["answer_says"],
+            "found-type": c["found_type"],
             "callee": c["over"].replace("/", "::"),
             "gkey": key(c["crate"], c["over"]),
             "K1": K1,
@@ -926,11 +930,14 @@ def over_record(c):
             f"move ! (0 ∷ {p(d)} ∷ []) $ free1 !" if i == d else f"move ! ({p(i) - (i > d)} ∷ {p(i) + 1 - (i > d)} ∷ []) $ free1 !" for i in range(n)
         )
         + " $ free0 ! $",
-        "by ! (exits (made k (zs .0)) (made-val u w) (λ i. made (e .0 i) (e .1 i)) (is-made k (zs .0) u w is is′))",
+        "by ! (exits (made k (zs .0)) (made-val u w) (λ i. stepped (e .0 i) (e .1 i)) (is-made k (zs .0) u w is is′))",
     )
     h.update(
         {
             "struct": c["struct"],
+            "step-says": c["step_says"],
+            "answer-says": c["answer_says"],
+            "found-type": c["found_type"],
             "answer": c["answer"],
             "callee": c["over"].replace("/", "::"),
             "gkey": key(c["crate"], c["over"]),

@@ -6,18 +6,19 @@ use lib.IntN.{ℤ}
 use mir.Syntax.{w32}
 use mir.Val.{SFits, toZ, ofZ}
 use mir.Facts.{toZ-ofZ}
+use Rattle.entcode.specs.Said.{Said, answer, lentAfter}
 use Rattle.entdec.specs.declared.Reader.{Reader}
 use Rattle.entenc.specs.declared.Writer.{Writer}
 use Rattle.entenc.specs.Write.{Wr, wr}
 use Rattle.rate_def.specs.Asked.{In, Out}
 use Rattle.rate.specs.Question.{Lists, Wishes, numbers, wishes}
-use Rattle.rate.specs.Answer.{Read, Written, afterRead, afterWritten, answerRead, answerWritten, reading, writing}
-use Rattle.rate.specs.declared.AllocRead.{AllocRead}
-use Rattle.rate.specs.declared.AllocWrote.{AllocWrote}
+use Rattle.rate.specs.Answer.{Read, Written, answerRead, answerWritten, reading, writing}
+use Rattle.rate.specs.declared.ReadAllocation.{ReadAllocation}
+use Rattle.rate.specs.declared.WrittenAllocation.{WrittenAllocation}
 use Rattle.rate.specs.declared.Numbers.{Numbers}
 use Rattle.celt_answer.specs.Left.{Left, left, given}
 use Rattle.celt_answer.proofs.Exports.{beside}
-use Rattle.celt_answer.specs.Allocation.{saidRead, saidWrote, saidAllRead, saidAllWrote}
+use Rattle.celt_answer.specs.Allocation.{listsRead, listsWrote, listsAllRead, listsAllWrote}
 
 -- ---- numbers that are handed on
 
@@ -34,34 +35,34 @@ wishes-back intensity dual previous bandwidth = rw (toZ-ofZ intensity, toZ-ofZ d
 
 -- ---- reading
 
-read-by : {a : AllocRead} {p : Lists} {x′ : List ℤ × List ℤ} {r : ℕ} (x : List ℤ × List ℤ) (n : ℕ) (i : In) (o : Out × Reader) (l : Lists)
-    → afterRead a p ≡ answerRead n i o l → left r x′ ≡ given (saidRead a) x
-    → left {A = (List ℤ × List ℤ) × Lists} r (x′, p) ≡ given (saidAllRead (answerRead n i o l)) (x, l)
-unfolding answerRead given
+read-by : {a : Said ReadAllocation} {p : Lists} {x′ : List ℤ × List ℤ} {r : ℕ} (x : List ℤ × List ℤ) (n : ℕ) (i : In) (o : Out × Reader) (l : Lists)
+    → _≡_ {A = Read} (record { said = a; lent = p }) (answerRead n i o l) → left r x′ ≡ given (listsRead a) x
+    → left {A = (List ℤ × List ℤ) × Lists} r (x′, p) ≡ given (listsAllRead (answerRead n i o l)) (x, l)
+unfolding answerRead answer lentAfter given
 read-by x zero i o l e h = beside (rw (ap (λ (t : Read). t .said) e) at h) (ap (λ (t : Read). t .lent) e)
 read-by x (suc n) i o l e h = beside (rw (ap (λ (t : Read). t .said) e) at h) (ap (λ (t : Read). t .lent) e)
 
-pub bands-read : {a : AllocRead} {p : Lists} {x′ : List ℤ × List ℤ} {r : ℕ} (x : List ℤ × List ℤ) {q q′ : Numbers} {d d′ : Reader}
-    (offsets caps : List ℤ) (s : List ℕ) (l : Lists) → q ≡ q′ → d ≡ d′ → afterRead a p ≡ reading q offsets caps s d l
-    → left r x′ ≡ given (saidRead a) x
-    → left {A = (List ℤ × List ℤ) × Lists} r (x′, p) ≡ given (saidAllRead (reading q′ offsets caps s d′ l)) (x, l)
+pub bands-read : {a : Said ReadAllocation} {p : Lists} {x′ : List ℤ × List ℤ} {r : ℕ} (x : List ℤ × List ℤ) {q q′ : Numbers} {d d′ : Reader}
+    (offsets caps : List ℤ) (s : List ℕ) (l : Lists) → q ≡ q′ → d ≡ d′ → _≡_ {A = Read} (record { said = a; lent = p }) (reading q offsets caps s d l)
+    → left r x′ ≡ given (listsRead a) x
+    → left {A = (List ℤ × List ℤ) × Lists} r (x′, p) ≡ given (listsAllRead (reading q′ offsets caps s d′ l)) (x, l)
 bands-read x {q′ = q′} {d = d} offsets caps s l same-q same-d e h =
     read-by x _ _ _ _
     (e ∙ ap (λ (q : Numbers). reading q offsets caps s d l) same-q ∙ ap (λ (d : Reader). reading q′ offsets caps s d l) same-d) h
 
 -- ---- writing
 
-wrote-by : {a : AllocWrote} {p : Lists} {b : List ℕ} {x′ : List ℤ × List ℤ} {r : ℕ} (x : List ℤ × List ℤ) (n : ℕ) (i : In) (o : Out × Wr) (l : Lists) (w : Wr)
-    → afterWritten a p b ≡ answerWritten n i o l w → left r x′ ≡ given (saidWrote a) x
-    → left {A = (List ℤ × List ℤ) × (Lists × List ℕ)} r (x′, (p, b)) ≡ given (saidAllWrote (answerWritten n i o l w)) (x, (l, w .bytes))
-unfolding answerWritten given
+wrote-by : {a : Said WrittenAllocation} {p : Lists} {b : List ℕ} {x′ : List ℤ × List ℤ} {r : ℕ} (x : List ℤ × List ℤ) (n : ℕ) (i : In) (o : Out × Wr) (l : Lists) (w : Wr)
+    → _≡_ {A = Written} (record { said = a; lent = p; bytes = b }) (answerWritten n i o l w) → left r x′ ≡ given (listsWrote a) x
+    → left {A = (List ℤ × List ℤ) × (Lists × List ℕ)} r (x′, (p, b)) ≡ given (listsAllWrote (answerWritten n i o l w)) (x, (l, w .bytes))
+unfolding answerWritten answer lentAfter given
 wrote-by x zero i o l w e h = beside (rw (ap (λ (t : Written). t .said) e) at h) (ap (λ (t : Written). (t .lent, t .bytes)) e)
 wrote-by x (suc n) i o l w e h = beside (rw (ap (λ (t : Written). t .said) e) at h) (ap (λ (t : Written). (t .lent, t .bytes)) e)
 
-pub bands-wrote : {a : AllocWrote} {p : Lists} {b′ : List ℕ} {x′ : List ℤ × List ℤ} {r : ℕ} (x : List ℤ × List ℤ) {q q′ : Numbers} {h h′ : Wishes} {w w′ : Writer}
-    (offsets caps : List ℤ) (b : List ℕ) (l : Lists) → q ≡ q′ → h ≡ h′ → w ≡ w′ → afterWritten a p b′ ≡ writing q h offsets caps (wr w b) l
-    → left r x′ ≡ given (saidWrote a) x
-    → left {A = (List ℤ × List ℤ) × (Lists × List ℕ)} r (x′, (p, b′)) ≡ given (saidAllWrote (writing q′ h′ offsets caps (wr w′ b) l)) (x, (l, b))
+pub bands-wrote : {a : Said WrittenAllocation} {p : Lists} {b′ : List ℕ} {x′ : List ℤ × List ℤ} {r : ℕ} (x : List ℤ × List ℤ) {q q′ : Numbers} {h h′ : Wishes} {w w′ : Writer}
+    (offsets caps : List ℤ) (b : List ℕ) (l : Lists) → q ≡ q′ → h ≡ h′ → w ≡ w′ → _≡_ {A = Written} (record { said = a; lent = p; bytes = b′ }) (writing q h offsets caps (wr w b) l)
+    → left r x′ ≡ given (listsWrote a) x
+    → left {A = (List ℤ × List ℤ) × (Lists × List ℕ)} r (x′, (p, b′)) ≡ given (listsAllWrote (writing q′ h′ offsets caps (wr w′ b) l)) (x, (l, b))
 bands-wrote x {q′ = q′} {h = h} {h′ = h′} {w = w} offsets caps b l same-q same-h same-w e g =
     wrote-by x _ _ _ _ _
     (e ∙ ap (λ (q : Numbers). writing q h offsets caps (wr w b) l) same-q ∙ ap (λ (h : Wishes). writing q′ h offsets caps (wr w b) l) same-h

@@ -1,37 +1,24 @@
 -- A line that a call writes into lent bytes, and its length beside them: by the call's answer. A refusal leaves both as they were. Assumes
 -- nothing.
-use Prim.Native.Nat.{ℕ, zero, suc}
+use Prim.Native.Nat.{ℕ}
 use mathlib.Core.Path.{_≡_, ap}
-use mathlib.Core.Bool.{Bool, true, false, cond}
 use mathlib.Core.List.{List}
-use lib.Dec.{leb}
-use lib.ListN.{length}
-use Rattle.saved.specs.Lines.{After, after, answerSaved}
-use Rattle.saved.specs.declared.Saved.{Saved}
-use Rattle.listing.specs.Answer.{Told, told, listing, room}
-use Rattle.listing.specs.declared.Listed.{Listed}
-use Rattle.listing.specs.declared.Listed.the-variants as listed
-use Rattle.celt_answer.specs.Left.{Left, left, given}
-use Rattle.celt_answer.proofs.Exports.{beside}
-use Rattle.celt_answer.specs.Record.{saidLine, saidSaved}
-use Rattle.celt_answer.specs.Requests.{saidWrote, saidTold}
+use Rattle.entcode.specs.Said.{Said, answer, lentAfter}
+use Rattle.saved.specs.Lines.{After}
+use Rattle.listing.specs.Answer.{Told, listing}
+use Rattle.celt_answer.specs.Left.{also, left, given}
+use Rattle.celt_answer.proofs.Exports.{joined}
+use Rattle.celt_answer.specs.Record.{listsLine}
+use Rattle.celt_answer.specs.Requests.{listsWrote, listsTold}
 
 -- a record's line
-pub line-saved : {a : Saved} {b v′ : List ℕ} {r : ℕ} (v : List ℕ) (n : ℕ) (line buf : List ℕ) → after a b ≡ answerSaved n line buf
-    → left r v′ ≡ given (saidLine a) v → left {A = List ℕ × List ℕ} r (v′, b) ≡ given (saidSaved (answerSaved n line buf)) (v, buf)
-unfolding answerSaved given
-line-saved v zero line buf e h = beside (rw (ap (λ (y : After). y .said) e) at h) (ap (λ (y : After). y .bytes) e)
-line-saved v (suc n) line buf e h = beside (rw (ap (λ (y : After). y .said) e) at h) (ap (λ (y : After). y .bytes) e)
+pub line-saved : {a : Said ℕ} {b v′ : List ℕ} {r : ℕ} (v : List ℕ) (n size : ℕ) (written buf : List ℕ)
+    → _≡_ {A = After} (record { said = a; bytes = b }) (record { said = answer n size; bytes = lentAfter n written buf }) → left r v′ ≡ given (listsLine a) v
+    → left {A = List ℕ × List ℕ} r (v′, b) ≡ given (also (listsLine (answer n size)) (lentAfter n written buf)) (v, buf)
+line-saved v n size written buf e h = joined _ n size written buf v (ap (λ (y : After). y .said) e) (ap (λ (y : After). y .bytes) e) h
 
--- the lister's lines, by the room for them
-listed-by : {a : Listed} {b v′ : List ℕ} {r : ℕ} (v : List ℕ) (fits : Bool) (n : ℕ) (lines out : List ℕ)
-    → let y = cond fits (told (listed.Wrote n) lines) (told (listed.Refused 2) out) in told a b ≡ y
-    → left r v′ ≡ given (saidWrote a) v → left {A = List ℕ × List ℕ} r (v′, b) ≡ given (saidTold y) (v, out)
-unfolding given
-listed-by v true n lines out e h = beside (rw (ap (λ (y : Told). y .said) e) at h) (ap (λ (y : Told). y .lent) e)
-listed-by v false n lines out e h = beside (rw (ap (λ (y : Told). y .said) e) at h) (ap (λ (y : Told). y .lent) e)
-
-pub lines-listed : {a : Listed} {b v′ : List ℕ} {r : ℕ} (v : List ℕ) (number : ℕ) (line out : List ℕ) → told a b ≡ listing number line out
-    → left r v′ ≡ given (saidWrote a) v → left {A = List ℕ × List ℕ} r (v′, b) ≡ given (saidTold (listing number line out)) (v, out)
+-- the lister's lines
+pub lines-listed : {a : Said ℕ} {b v′ : List ℕ} {r : ℕ} (v : List ℕ) (number : ℕ) (line out : List ℕ) → _≡_ {A = Told} (record { said = a; lent = b }) (listing number line out)
+    → left r v′ ≡ given (listsWrote a) v → left {A = List ℕ × List ℕ} r (v′, b) ≡ given (listsTold (listing number line out)) (v, out)
 unfolding listing
-lines-listed v number line out e h = listed-by v (leb room (length out)) _ _ out e h
+lines-listed v number line out e h = joined _ _ _ _ out v (ap (λ (y : Told). y .said) e) (ap (λ (y : Told). y .lent) e) h

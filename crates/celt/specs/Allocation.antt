@@ -8,15 +8,15 @@ use Rattle.rate.specs.Answer.{reading, writing}
 use Rattle.rate.specs.Question.{Lists, Wishes}
 use Rattle.rate.specs.declared.Numbers.{Numbers}
 use Rattle.celt_answer.specs.Left.{Left, exported}
-use Rattle.celt_state.specs.State.{readerOf, writerOf, isState, isLong}
-use Rattle.celt_answer.specs.Allocation.{four, saidAllRead, saidAllWrote}
+use Rattle.celt_state.specs.State.{readerOf, writerOf, isStored, isLong}
+use Rattle.celt_answer.specs.Allocation.{four, listsAllRead, listsAllWrote}
 
 -- an allocation read from the packet s; v is where the four numbers go
 abbrev pub reads : Numbers → List ℤ → List ℤ → List ℕ → List ℤ → List ℤ → Lists → Left ((List ℤ × List ℤ) × Lists)
 reads q offsets caps s l v bands =
-    exported (isState l && isLong 4 v) (saidAllRead (reading q offsets caps s (readerOf l) bands)) ((l, v), bands)
+    exported (isStored l && isLong 4 v) (listsAllRead (reading q offsets caps s (readerOf l) bands)) ((l, v), bands)
 
 -- an allocation written
 abbrev pub writes : Numbers → Wishes → List ℤ → List ℤ → List ℤ → List ℤ → Lists → List ℕ → Left ((List ℤ × List ℤ) × (Lists × List ℕ))
 writes q h offsets caps l v bands b =
-    exported (isState l && isLong 4 v) (saidAllWrote (writing q h offsets caps (wr (writerOf l) b) bands)) ((l, v), (bands, b))
+    exported (isStored l && isLong 4 v) (listsAllWrote (writing q h offsets caps (wr (writerOf l) b) bands)) ((l, v), (bands, b))

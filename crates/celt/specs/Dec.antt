@@ -4,26 +4,27 @@ use mathlib.Core.Bool.{_&&_}
 use mathlib.Core.List.{List}
 use lib.IntN.{ℤ}
 use Rattle.entcode.specs.Counts.{toldOf}
+use Rattle.entcode.specs.Said.{answer}
 use Rattle.entcode.specs.Sym.{Shape}
 use Rattle.entcode.specs.Tell.{tellOf, tellFracOf}
-use Rattle.entdec.specs.Answer.{answer, startOf}
+use Rattle.entdec.specs.Answer.{startOf}
 use Rattle.entdec.specs.Rule.{readerOk, refusalR}
 use Rattle.entdec.specs.Symbols.{readSym}
 use Rattle.celt_answer.specs.Left.{Left, exported}
-use Rattle.celt_state.specs.State.{readerOf, isState, isLong}
-use Rattle.celt_answer.specs.Dec.{saidStart, saidRead, saidTold}
+use Rattle.celt_state.specs.State.{readerOf, isState, isStored, isLong}
+use Rattle.celt_answer.specs.Dec.{listsStart, listsRead, listsTold}
 
 -- a new reader of the packet s
 abbrev pub starts : List ℕ → List ℤ → Left (List ℤ)
-starts s l = exported (isState l) (saidStart (startOf s)) l
+starts s l = exported (isState l) (listsStart (startOf s)) l
 
 -- a read of one symbol of a kind
 abbrev pub reads : Shape → List ℕ → List ℤ → List ℕ → Left (List ℤ × List ℕ)
-reads h s l v = exported (isState l && isLong 1 v) (saidRead (answer (refusalR h s (readerOf l)) (readSym h s (readerOf l)))) (l, v)
+reads h s l v = exported (isStored l && isLong 1 v) (listsRead (answer (refusalR h s (readerOf l)) (readSym h s (readerOf l)))) (l, v)
 
 -- how many bits are used, and how many eighths
 abbrev pub tells : List ℤ → List ℕ → Left (List ℕ)
-tells l v = exported (isState l && isLong 1 v) (saidTold (toldOf (readerOk (readerOf l)) (tellOf (readerOf l .total) (readerOf l .rng)))) v
+tells l v = exported (isState l && isLong 1 v) (listsTold (toldOf (readerOk (readerOf l)) (tellOf (readerOf l .total) (readerOf l .rng)))) v
 
 abbrev pub tellsFrac : List ℤ → List ℕ → Left (List ℕ)
-tellsFrac l v = exported (isState l && isLong 1 v) (saidTold (toldOf (readerOk (readerOf l)) (tellFracOf (readerOf l .total) (readerOf l .rng)))) v
+tellsFrac l v = exported (isState l && isLong 1 v) (listsTold (toldOf (readerOk (readerOf l)) (tellFracOf (readerOf l .total) (readerOf l .rng)))) v

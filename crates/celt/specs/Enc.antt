@@ -11,25 +11,25 @@ use Rattle.entenc.specs.Answer.{startOf, writing, closing}
 use Rattle.entenc.specs.Rule.{writerOk}
 use Rattle.entenc.specs.Write.{wr}
 use Rattle.celt_answer.specs.Left.{Left, exported}
-use Rattle.celt_state.specs.State.{writerOf, isState, isLong}
-use Rattle.celt_answer.specs.Dec.{saidTold}
-use Rattle.celt_answer.specs.Enc.{saidNext, saidWrote}
+use Rattle.celt_state.specs.State.{writerOf, isState, isStored, isLong}
+use Rattle.celt_answer.specs.Dec.{listsTold}
+use Rattle.celt_answer.specs.Enc.{listsNext, listsWrote}
 
 -- a new writer over the bytes b
 abbrev pub starts : List ℕ → List ℤ → Left (List ℤ)
-starts b l = exported (isState l) (saidNext (startOf (length b))) l
+starts b l = exported (isState l) (listsNext (startOf (length b))) l
 
 -- a write of the value v of a kind
 abbrev pub writes : Shape → ℕ → List ℤ → List ℕ → Left (List ℤ × List ℕ)
-writes h v l b = exported (isState l) (saidWrote (writing h v (wr (writerOf l) b))) (l, b)
+writes h v l b = exported (isStored l) (listsWrote (writing h v (wr (writerOf l) b))) (l, b)
 
 -- a close
 abbrev pub closes : List ℤ → List ℕ → Left (List ℤ × List ℕ)
-closes l b = exported (isState l) (saidWrote (closing (wr (writerOf l) b))) (l, b)
+closes l b = exported (isStored l) (listsWrote (closing (wr (writerOf l) b))) (l, b)
 
 -- how many bits are used, and how many eighths
 abbrev pub tells : List ℤ → List ℕ → Left (List ℕ)
-tells l v = exported (isState l && isLong 1 v) (saidTold (toldOf (writerOk (writerOf l)) (tellOf (writerOf l .total) (writerOf l .rng)))) v
+tells l v = exported (isState l && isLong 1 v) (listsTold (toldOf (writerOk (writerOf l)) (tellOf (writerOf l .total) (writerOf l .rng)))) v
 
 abbrev pub tellsFrac : List ℤ → List ℕ → Left (List ℕ)
-tellsFrac l v = exported (isState l && isLong 1 v) (saidTold (toldOf (writerOk (writerOf l)) (tellFracOf (writerOf l .total) (writerOf l .rng)))) v
+tellsFrac l v = exported (isState l && isLong 1 v) (listsTold (toldOf (writerOk (writerOf l)) (tellFracOf (writerOf l .total) (writerOf l .rng)))) v

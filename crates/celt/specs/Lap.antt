@@ -6,13 +6,13 @@ use lib.IntN.{ℤ}
 use Rattle.entenc.specs.Write.{wr}
 use Rattle.laplace.specs.Answer.{reading, writing}
 use Rattle.celt_answer.specs.Left.{Left, exported}
-use Rattle.celt_state.specs.State.{readerOf, writerOf, isState, isLong}
-use Rattle.celt_answer.specs.Lap.{saidValue, saidWrote}
+use Rattle.celt_state.specs.State.{readerOf, writerOf, isStored, isLong}
+use Rattle.celt_answer.specs.Lap.{listsValue, listsWrote}
 
 -- a value of the pair fs and dec, read from the packet s
 abbrev pub decodes : ℕ → ℕ → List ℕ → List ℤ → List ℤ → Left (List ℤ × List ℤ)
-decodes fs dec s l v = exported (isState l && isLong 1 v) (saidValue (reading fs dec s (readerOf l))) (l, v)
+decodes fs dec s l v = exported (isStored l && isLong 1 v) (listsValue (reading fs dec s (readerOf l))) (l, v)
 
 -- the value z of the pair, written; v is where the one that counts goes
 abbrev pub encodes : ℕ → ℕ → ℤ → List ℤ → List ℤ → List ℕ → Left ((List ℤ × List ℤ) × List ℕ)
-encodes fs dec z l v b = exported (isState l && isLong 1 v) (saidWrote (writing fs dec z (wr (writerOf l) b))) ((l, v), b)
+encodes fs dec z l v b = exported (isStored l && isLong 1 v) (listsWrote (writing fs dec z (wr (writerOf l) b))) ((l, v), b)

@@ -6,14 +6,14 @@ use lib.IntN.{ℤ}
 use Rattle.entenc.specs.Write.{wr}
 use Rattle.cwrs.specs.Answer.{reading, writing}
 use Rattle.celt_answer.specs.Left.{Left, exported}
-use Rattle.celt_state.specs.State.{readerOf, writerOf, isState, isLong}
-use Rattle.celt_answer.specs.Enc.{saidWrote}
-use Rattle.celt_answer.specs.Pulses.{saidPlaced}
+use Rattle.celt_state.specs.State.{readerOf, writerOf, isStored, isLong}
+use Rattle.celt_answer.specs.Enc.{listsWrote}
+use Rattle.celt_answer.specs.Pulses.{listsPlaced}
 
 -- a vector of n places and k pulses, read from the packet s into the places y; e is where its energy goes
 abbrev pub decodes : ℕ → ℕ → List ℕ → List ℤ → List ℕ → List ℤ → Left ((List ℤ × List ℕ) × List ℤ)
-decodes n k s l e y = exported (isState l && isLong 1 e) (saidPlaced (reading n k s (readerOf l) y)) ((l, e), y)
+decodes n k s l e y = exported (isStored l && isLong 1 e) (listsPlaced (reading n k s (readerOf l) y)) ((l, e), y)
 
 -- the vector y, written
 abbrev pub encodes : ℕ → ℕ → List ℤ → List ℤ → List ℕ → Left (List ℤ × List ℕ)
-encodes n k y l b = exported (isState l) (saidWrote (writing n k y (wr (writerOf l) b))) (l, b)
+encodes n k y l b = exported (isStored l) (listsWrote (writing n k y (wr (writerOf l) b))) (l, b)

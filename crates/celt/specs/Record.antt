@@ -7,10 +7,10 @@ use lib.IntN.{ℤ}
 use Rattle.stream.specs.Frame.{fresh, call, framed}
 use Rattle.saved.specs.Lines.{saving, restoring}
 use Rattle.celt_answer.specs.Left.{Left, exported}
-use Rattle.celt_answer.specs.Left.Said.{done}
-use Rattle.celt_answer.specs.Record.{saidFramed, saidSaved, saidRestored}
+use Rattle.entcode.specs.Said.Said.{done}
+use Rattle.celt_answer.specs.Record.{listsFramed, listsSaved, listsRestored}
 use Rattle.celt_state.specs.Record.{isRecord, recordOf, recordIn, listsOf}
-use Rattle.celt_state.specs.State.{readerOf, isState, isLong}
+use Rattle.celt_state.specs.State.{readerOf, isStored, isLong}
 
 -- a record to which no frame was applied
 abbrev pub freshes : List Float → List ℕ → Left (List Float × List ℕ)
@@ -19,12 +19,12 @@ freshes e n = exported (isRecord e n) (done (listsOf fresh)) (e, n)
 -- a frame of the packet s, with the numbers of its coarse decode
 abbrev pub frames : List ℕ → ℕ → ℤ → ℤ → ℤ → ℤ → ℤ → List Float → List ℕ → List ℤ → Left ((List Float × List ℕ) × List ℤ)
 frames s number c lm start end intra e n l =
-    exported (isRecord e n && isState l) (saidFramed (framed (recordIn e n) (call (readerOf l) s number c lm start end intra))) ((e, n), l)
+    exported (isRecord e n && isStored l) (listsFramed (framed (recordIn e n) (call (readerOf l) s number c lm start end intra))) ((e, n), l)
 
 -- a record's line into the bytes b; v is where its length goes
 abbrev pub saves : List Float → ℕ → List ℕ → List ℕ → Left (List ℕ × List ℕ)
-saves e next v b = exported (isLong 42 e && isLong 1 v) (saidSaved (saving (recordOf e next) b)) (v, b)
+saves e next v b = exported (isLong 42 e && isLong 1 v) (listsSaved (saving (recordOf e next) b)) (v, b)
 
 -- the record of a line
 abbrev pub restores : List ℕ → List Float → List ℕ → Left (List Float × List ℕ)
-restores line e n = exported (isRecord e n) (saidRestored (restoring line)) (e, n)
+restores line e n = exported (isRecord e n) (listsRestored (restoring line)) (e, n)

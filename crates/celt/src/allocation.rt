@@ -1,6 +1,7 @@
 // The bit allocation: the calls of rate.
 use celt_answer::allocation::leave_alloc_read;
 use celt_answer::allocation::leave_alloc_write;
+use celt_state::load::is_stored;
 use celt_state::load::load_reader;
 use celt_state::load::load_writer;
 ghost use mathlib.Core.Path.{_≡_};
@@ -30,7 +31,7 @@ pub extern "C" fn celt_compute_allocation_read(
         ⌜ left r ((now (state .exit), now (shown .exit)), lists (now (pulses .exit)) (now (fine .exit)) (now (priorities .exit)))
         ≡ reads (numbers c lm start end trim total) (now (offsets .entry)) (now (caps .entry)) (now (s .entry)) (now (state .entry)) (now (shown .entry)) (lists (now (pulses .entry)) (now (fine .entry)) (now (priorities .entry))) ⌝ }
 {
-    if (state.len() == 12) & (shown.len() == 4) {
+    if is_stored(state) & (shown.len() == 4) {
         let d = load_reader(state);
         let a = rate::clt_compute_allocation_read(
             d,
@@ -78,7 +79,7 @@ pub extern "C" fn celt_compute_allocation_write(
         ⌜ left r ((now (state .exit), now (shown .exit)), (lists (now (pulses .exit)) (now (fine .exit)) (now (priorities .exit)), now (buf .exit)))
         ≡ writes (numbers c lm start end trim total) (wishes intensity dual previous bandwidth) (now (offsets .entry)) (now (caps .entry)) (now (state .entry)) (now (shown .entry)) (lists (now (pulses .entry)) (now (fine .entry)) (now (priorities .entry))) (now (buf .entry)) ⌝ }
 {
-    if (state.len() == 12) & (shown.len() == 4) {
+    if is_stored(state) & (shown.len() == 4) {
         let w = load_writer(state);
         let a = rate::clt_compute_allocation_write(
             w,

@@ -2,6 +2,7 @@
 use celt_answer::dec::leave_read;
 use celt_answer::dec::leave_start;
 use celt_answer::dec::leave_told;
+use celt_state::load::is_stored;
 use celt_state::load::load_reader;
 use entdec::Reader;
 ghost use mathlib.Core.Path.{_≡_};
@@ -32,7 +33,7 @@ pub extern "C" fn celt_dec_bit_logp(
     ensures { λ r.
         ⌜ left r (now (state .exit), now (value .exit)) ≡ reads (bit logp) (now (s .entry)) (now (state .entry)) (now (value .entry)) ⌝ }
 {
-    if (state.len() == 12) & (value.len() == 1) {
+    if is_stored(state) & (value.len() == 1) {
         let d = load_reader(state);
         let a = d.bit_logp(s, logp);
         return leave_read(a, state, value);
@@ -52,7 +53,7 @@ pub extern "C" fn celt_dec_icdf(
     ensures { λ r.
         ⌜ left r (now (state .exit), now (value .exit)) ≡ reads (table (now (t .entry)) ftb) (now (s .entry)) (now (state .entry)) (now (value .entry)) ⌝ }
 {
-    if (state.len() == 12) & (value.len() == 1) {
+    if is_stored(state) & (value.len() == 1) {
         let d = load_reader(state);
         let a = d.icdf(s, t, ftb);
         return leave_read(a, state, value);
@@ -66,7 +67,7 @@ pub extern "C" fn celt_dec_uint(state: &mut [i64], s: &[u8], ft: u32, value: &mu
     ensures { λ r.
         ⌜ left r (now (state .exit), now (value .exit)) ≡ reads (uint ft) (now (s .entry)) (now (state .entry)) (now (value .entry)) ⌝ }
 {
-    if (state.len() == 12) & (value.len() == 1) {
+    if is_stored(state) & (value.len() == 1) {
         let d = load_reader(state);
         let a = d.uint(s, ft);
         return leave_read(a, state, value);
@@ -80,7 +81,7 @@ pub extern "C" fn celt_dec_bits(state: &mut [i64], s: &[u8], n: u32, value: &mut
     ensures { λ r.
         ⌜ left r (now (state .exit), now (value .exit)) ≡ reads (raw n) (now (s .entry)) (now (state .entry)) (now (value .entry)) ⌝ }
 {
-    if (state.len() == 12) & (value.len() == 1) {
+    if is_stored(state) & (value.len() == 1) {
         let d = load_reader(state);
         let a = d.bits(s, n);
         return leave_read(a, state, value);

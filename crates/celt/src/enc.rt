@@ -1,6 +1,7 @@
 // Writing symbols: the calls of entenc.
 use celt_answer::dec::leave_told;
 use celt_answer::enc::leave_write;
+use celt_state::load::is_stored;
 use celt_state::load::load_writer;
 use entenc::Writer;
 ghost use mathlib.Core.Path.{_≡_};
@@ -25,7 +26,7 @@ pub extern "C" fn celt_enc_new(state: &mut [i64], buf: &[u8]) -> u32
 pub extern "C" fn celt_enc_bit_logp(state: &mut [i64], buf: &mut [u8], value: u32, logp: u32) -> u32
     ensures { λ r. ⌜ left r (now (state .exit), now (buf .exit)) ≡ writes (bit logp) value (now (state .entry)) (now (buf .entry)) ⌝ }
 {
-    if state.len() == 12 {
+    if is_stored(state) {
         let w = load_writer(state);
         let a = w.bit_logp(buf, value, logp);
         return leave_write(a, state);
@@ -44,7 +45,7 @@ pub extern "C" fn celt_enc_icdf(
 ) -> u32
     ensures { λ r. ⌜ left r (now (state .exit), now (buf .exit)) ≡ writes (table (now (t .entry)) ftb) s (now (state .entry)) (now (buf .entry)) ⌝ }
 {
-    if state.len() == 12 {
+    if is_stored(state) {
         let w = load_writer(state);
         let a = w.icdf(buf, s, t, ftb);
         return leave_write(a, state);
@@ -57,7 +58,7 @@ pub extern "C" fn celt_enc_icdf(
 pub extern "C" fn celt_enc_uint(state: &mut [i64], buf: &mut [u8], fl: u32, ft: u32) -> u32
     ensures { λ r. ⌜ left r (now (state .exit), now (buf .exit)) ≡ writes (uint ft) fl (now (state .entry)) (now (buf .entry)) ⌝ }
 {
-    if state.len() == 12 {
+    if is_stored(state) {
         let w = load_writer(state);
         let a = w.uint(buf, fl, ft);
         return leave_write(a, state);
@@ -70,7 +71,7 @@ pub extern "C" fn celt_enc_uint(state: &mut [i64], buf: &mut [u8], fl: u32, ft: 
 pub extern "C" fn celt_enc_bits(state: &mut [i64], buf: &mut [u8], v: u32, n: u32) -> u32
     ensures { λ r. ⌜ left r (now (state .exit), now (buf .exit)) ≡ writes (raw n) v (now (state .entry)) (now (buf .entry)) ⌝ }
 {
-    if state.len() == 12 {
+    if is_stored(state) {
         let w = load_writer(state);
         let a = w.bits(buf, v, n);
         return leave_write(a, state);
@@ -83,7 +84,7 @@ pub extern "C" fn celt_enc_bits(state: &mut [i64], buf: &mut [u8], v: u32, n: u3
 pub extern "C" fn celt_enc_close(state: &mut [i64], buf: &mut [u8]) -> u32
     ensures { λ r. ⌜ left r (now (state .exit), now (buf .exit)) ≡ closes (now (state .entry)) (now (buf .entry)) ⌝ }
 {
-    if state.len() == 12 {
+    if is_stored(state) {
         let w = load_writer(state);
         let a = w.close(buf);
         return leave_write(a, state);

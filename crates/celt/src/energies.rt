@@ -1,5 +1,6 @@
 // The energies of the bands: the calls of quant_bands.
 use celt_answer::energies::leave_energies;
+use celt_state::load::is_stored;
 use celt_state::load::load_reader;
 ghost use mathlib.Core.Path.{_≡_};
 ghost use Rattle.celt_answer.specs.Left as answer;
@@ -21,7 +22,7 @@ pub extern "C" fn celt_unquant_coarse_energy(
         ⌜ answer.left r (now (state .exit), now (energies .exit))
         ≡ coarse c lm start end intra (now (s .entry)) (now (state .entry)) (now (energies .entry)) ⌝ }
 {
-    if state.len() == 12 {
+    if is_stored(state) {
         let d = load_reader(state);
         let a = quant_bands::unquant_coarse_energy(d, s, energies, c, lm, start, end, intra);
         return leave_energies(a, state);
@@ -46,7 +47,7 @@ pub extern "C" fn celt_unquant_energy_finalise(
         ⌜ answer.left r (now (state .exit), now (energies .exit))
         ≡ finalise c start end (now (fine .entry)) (now (priorities .entry)) left (now (s .entry)) (now (state .entry)) (now (energies .entry)) ⌝ }
 {
-    if state.len() == 12 {
+    if is_stored(state) {
         let d = load_reader(state);
         let a = quant_bands::unquant_energy_finalise(
             d,

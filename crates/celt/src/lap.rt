@@ -1,6 +1,7 @@
 // Laplace values: the calls of laplace.
 use celt_answer::lap::leave_done;
 use celt_answer::lap::leave_value;
+use celt_state::load::is_stored;
 use celt_state::load::load_reader;
 use celt_state::load::load_writer;
 ghost use mathlib.Core.Path.{_≡_};
@@ -19,7 +20,7 @@ pub extern "C" fn celt_laplace_decode(
     ensures { λ r.
         ⌜ left r (now (state .exit), now (value .exit)) ≡ decodes fs decay (now (s .entry)) (now (state .entry)) (now (value .entry)) ⌝ }
 {
-    if (state.len() == 12) & (value.len() == 1) {
+    if is_stored(state) & (value.len() == 1) {
         let d = load_reader(state);
         let a = laplace::ec_laplace_decode(d, s, fs, decay);
         return leave_value(a, state, value);
@@ -40,7 +41,7 @@ pub extern "C" fn celt_laplace_encode(
     ensures { λ r.
         ⌜ left r ((now (state .exit), now (value .exit)), now (buf .exit)) ≡ encodes fs decay z (now (state .entry)) (now (value .entry)) (now (buf .entry)) ⌝ }
 {
-    if (state.len() == 12) & (value.len() == 1) {
+    if is_stored(state) & (value.len() == 1) {
         let w = load_writer(state);
         let a = laplace::ec_laplace_encode(w, buf, z, fs, decay);
         return leave_done(a, state, value);

@@ -1,6 +1,7 @@
 // Pulse words: the calls of cwrs.
 use celt_answer::enc::leave_write;
 use celt_answer::pulses::leave_found;
+use celt_state::load::is_stored;
 use celt_state::load::load_reader;
 use celt_state::load::load_writer;
 ghost use mathlib.Core.Path.{_≡_};
@@ -21,7 +22,7 @@ pub extern "C" fn celt_decode_pulses(
         ⌜ left r ((now (state .exit), now (energy .exit)), now (y .exit))
         ≡ decodes n k (now (s .entry)) (now (state .entry)) (now (energy .entry)) (now (y .entry)) ⌝ }
 {
-    if (state.len() == 12) & (energy.len() == 1) {
+    if is_stored(state) & (energy.len() == 1) {
         let d = load_reader(state);
         let a = cwrs::decode_pulses(d, s, y, n, k);
         return leave_found(a, state, energy);
@@ -40,7 +41,7 @@ pub extern "C" fn celt_encode_pulses(
 ) -> u32
     ensures { λ r. ⌜ left r (now (state .exit), now (buf .exit)) ≡ encodes n k (now (y .entry)) (now (state .entry)) (now (buf .entry)) ⌝ }
 {
-    if state.len() == 12 {
+    if is_stored(state) {
         let w = load_writer(state);
         let a = cwrs::encode_pulses(w, buf, y, n, k);
         return leave_write(a, state);

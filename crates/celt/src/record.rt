@@ -2,6 +2,7 @@
 use celt_answer::record::leave_frame;
 use celt_answer::record::leave_line;
 use celt_answer::record::leave_restored;
+use celt_state::load::is_stored;
 use celt_state::load::load_reader;
 use celt_state::record::load_record;
 use celt_state::record::store_record;
@@ -50,7 +51,7 @@ pub extern "C" fn celt_record_frame(
         ⌜ left r ((now (energies .exit), now (next .exit)), now (state .exit))
         ≡ frames (now (s .entry)) number c lm start end intra (now (energies .entry)) (now (next .entry)) (now (state .entry)) ⌝ }
 {
-    if (energies.len() == 42) & (next.len() == 1) & (state.len() == 12) {
+    if (energies.len() == 42) & (next.len() == 1) & is_stored(state) {
         let rec = load_record(energies, next[0]);
         let d = load_reader(state);
         let y = rec.frame(d, s, number, c, lm, start, end, intra);

@@ -1,5 +1,6 @@
 // Shapes of bands: the call of vq.
 use celt_answer::shapes::leave_shape;
+use celt_state::load::is_stored;
 use celt_state::load::load_reader;
 ghost use mathlib.Core.Path.{_≡_};
 ghost use Rattle.vq.specs.Answer.{asked};
@@ -23,7 +24,7 @@ pub extern "C" fn celt_alg_unquant(
         ⌜ left r ((now (state .exit), now (mask .exit)), now (shape .exit))
         ≡ unquants (asked n k spread b gain) (now (s .entry)) (now (state .entry)) (now (mask .entry)) (now (shape .entry)) ⌝ }
 {
-    if (state.len() == 12) & (mask.len() == 1) {
+    if is_stored(state) & (mask.len() == 1) {
         let d = load_reader(state);
         let a = vq::alg_unquant(d, s, shape, n, k, spread, b, gain);
         return leave_shape(a, state, mask);

@@ -1,18 +1,18 @@
 -- An answer with a code: what it leaves, by the code. Assumes nothing.
 use Prim.Native.Nat.{ℕ, zero, suc}
 use mathlib.Core.Path.{_≡_, refl}
+use Rattle.entcode.specs.Said.{answer}
 use Rattle.celt_answer.specs.Left.{left, given}
-use Rattle.celt_answer.specs.Record.{saidBy}
 
 module _ {A : Type 0} (v before : A) where
   -- code 0: the lists are written
-  pub coded : {n : ℕ} {x : A} → n ≡ 0 → x ≡ v → left 0 x ≡ given (saidBy n v) before
-  unfolding given
+  pub coded : {n : ℕ} {x : A} → n ≡ 0 → x ≡ v → left 0 x ≡ given (answer n v) before
+  unfolding answer given
   coded e h = rw (e, h)
 
   -- any other: that refusal, and the lists as they were
-  pub uncoded : (n : ℕ) → (n ≡ 0 → ⊥) → left n before ≡ given (saidBy n v) before
-  unfolding given
+  pub uncoded : (n : ℕ) → (n ≡ 0 → ⊥) → left n before ≡ given (answer n v) before
+  unfolding answer given
   uncoded zero h = absurd (h refl)
   uncoded (suc n) h = refl
 

@@ -1,34 +1,30 @@
--- What the answers of rate say.
+-- What the answers of rate say, in lists.
 use Prim.Native.Nat.{ℕ}
 use mathlib.Core.List.{List, [], _∷_}
 use lib.IntN.{ℤ}
-use Rattle.rate.specs.Answer.{Read, Written, reading, writing}
+use Rattle.entcode.specs.Said.{Said, shown}
+use Rattle.rate.specs.Answer.{Read, Written}
 use Rattle.rate.specs.Question.{Lists}
-use Rattle.rate.specs.declared.AllocRead.{AllocRead}
-use Rattle.rate.specs.declared.AllocRead.the-variants as read
-use Rattle.rate.specs.declared.AllocWrote.{AllocWrote}
-use Rattle.rate.specs.declared.AllocWrote.the-variants as wrote
-use Rattle.celt_answer.specs.Left.{Said, also}
-use Rattle.celt_answer.specs.Left.Said.{done, refused}
+use Rattle.rate.specs.declared.ReadAllocation.{ReadAllocation}
+use Rattle.rate.specs.declared.WrittenAllocation.{WrittenAllocation}
+use Rattle.celt_answer.specs.Left.{also}
 use Rattle.celt_state.specs.State.{listOfReader, listOfWriter}
 
 -- coded bands, balance, intensity and dual stereo as a list
 abbrev pub four : ℤ → ℤ → ℤ → ℤ → List ℤ
 four coded balance intensity dual = coded ∷ balance ∷ intensity ∷ dual ∷ []
 
--- what reading says: the next reader's list, and the four numbers
-abbrev pub saidRead : AllocRead → Said (List ℤ × List ℤ)
-saidRead (read.Got y) = done (listOfReader (y .next), four (y .coded) (y .balance) (y .intensity) (y .dual))
-saidRead (read.Refused n) = refused n
+-- of reading: the next reader's list, and the four numbers
+abbrev pub listsRead : Said ReadAllocation → Said (List ℤ × List ℤ)
+listsRead a = shown (λ (y : ReadAllocation). (listOfReader (y .next), four (y .coded) (y .balance) (y .intensity) (y .dual))) a
 
--- what writing says
-abbrev pub saidWrote : AllocWrote → Said (List ℤ × List ℤ)
-saidWrote (wrote.Got y) = done (listOfWriter (y .next), four (y .coded) (y .balance) (y .intensity) (y .dual))
-saidWrote (wrote.Refused n) = refused n
+-- of writing
+abbrev pub listsWrote : Said WrittenAllocation → Said (List ℤ × List ℤ)
+listsWrote a = shown (λ (y : WrittenAllocation). (listOfWriter (y .next), four (y .coded) (y .balance) (y .intensity) (y .dual))) a
 
 -- and the lists of the bands beside them, and the bytes
-abbrev pub saidAllRead : Read → Said ((List ℤ × List ℤ) × Lists)
-saidAllRead y = also (saidRead (y .said)) (y .lent)
+abbrev pub listsAllRead : Read → Said ((List ℤ × List ℤ) × Lists)
+listsAllRead y = also (listsRead (y .said)) (y .lent)
 
-abbrev pub saidAllWrote : Written → Said ((List ℤ × List ℤ) × (Lists × List ℕ))
-saidAllWrote y = also (saidWrote (y .said)) (y .lent, y .bytes)
+abbrev pub listsAllWrote : Written → Said ((List ℤ × List ℤ) × (Lists × List ℕ))
+listsAllWrote y = also (listsWrote (y .said)) (y .lent, y .bytes)

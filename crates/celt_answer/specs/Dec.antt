@@ -1,28 +1,20 @@
--- What the answers of entdec say.
+-- What the answers of entdec say, in lists.
 use Prim.Native.Nat.{ℕ}
 use mathlib.Core.List.{List, [], _∷_}
 use lib.IntN.{ℤ}
-use Rattle.entcode.specs.declared.Told.{Told}
-use Rattle.entcode.specs.declared.Told.the-variants as told
-use Rattle.entdec.specs.declared.Answer.{Answer}
-use Rattle.entdec.specs.declared.Answer.the-variants as read
-use Rattle.entdec.specs.declared.Started.{Started}
-use Rattle.entdec.specs.declared.Started.the-variants as started
-use Rattle.celt_answer.specs.Left.{Said}
-use Rattle.celt_answer.specs.Left.Said.{done, refused}
+use Rattle.entcode.specs.Said.{Said, shown}
+use Rattle.entdec.specs.declared.Read.{Read}
+use Rattle.entdec.specs.declared.Reader.{Reader}
 use Rattle.celt_state.specs.State.{listOfReader}
 
--- what a start says: the new reader's list
-abbrev pub saidStart : Started → Said (List ℤ)
-saidStart (started.At d) = done (listOfReader d)
-saidStart (started.Refused n) = refused n
+-- of a start: the new reader's list
+abbrev pub listsStart : Said Reader → Said (List ℤ)
+listsStart a = shown listOfReader a
 
--- what a read says: the next reader's list, and the value
-abbrev pub saidRead : Answer → Said (List ℤ × List ℕ)
-saidRead (read.Got y) = done (listOfReader (y .next), y .value ∷ [])
-saidRead (read.Refused n) = refused n
+-- of a read: the next reader's list, and the value
+abbrev pub listsRead : Said Read → Said (List ℤ × List ℕ)
+listsRead a = shown (λ (y : Read). (listOfReader (y .next), y .value ∷ [])) a
 
--- what tell says: the count
-abbrev pub saidTold : Told → Said (List ℕ)
-saidTold (told.Used n) = done (n ∷ [])
-saidTold (told.Refused n) = refused n
+-- of tell: the count
+abbrev pub listsTold : Said ℕ → Said (List ℕ)
+listsTold a = shown (λ (n : ℕ). n ∷ []) a

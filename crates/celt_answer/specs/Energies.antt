@@ -1,20 +1,17 @@
--- What the answers of quant_bands say.
-use Prim.Native.Nat.{ℕ}
+-- What the answers of quant_bands say, in lists.
 use mathlib.Core.List.{List}
 use lib.IntN.{ℤ}
 use lib.Ieee.{Float}
+use Rattle.entcode.specs.Said.{Said, shown}
+use Rattle.entdec.specs.declared.Reader.{Reader}
 use Rattle.quant_bands.specs.Answer.{After}
-use Rattle.quant_bands.specs.declared.EnergyRead.{EnergyRead}
-use Rattle.quant_bands.specs.declared.EnergyRead.the-variants as read
-use Rattle.celt_answer.specs.Left.{Said, also}
-use Rattle.celt_answer.specs.Left.Said.{done, refused}
+use Rattle.celt_answer.specs.Left.{also}
 use Rattle.celt_state.specs.State.{listOfReader}
 
--- what a decode says: the next reader's list
-abbrev pub saidNext : EnergyRead → Said (List ℤ)
-saidNext (read.Got d) = done (listOfReader d)
-saidNext (read.Refused n) = refused n
+-- of a decode: the next reader's list
+abbrev pub listsNext : Said Reader → Said (List ℤ)
+listsNext a = shown listOfReader a
 
 -- and the energies beside it
-abbrev pub saidEnergies : After → Said (List ℤ × List Float)
-saidEnergies y = also (saidNext (y .said)) (y .energies)
+abbrev pub listsEnergies : After → Said (List ℤ × List Float)
+listsEnergies y = also (listsNext (y .said)) (y .energies)

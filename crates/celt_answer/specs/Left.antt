@@ -1,13 +1,9 @@
 -- What an exported call leaves: one shape for every call. A is what it is lent for writing, all lists together.
 use Prim.Native.Nat.{ℕ}
 use mathlib.Core.Bool.{Bool, cond}
+use Rattle.entcode.specs.Said.{Said}
 
--- what a call says: what the lists then hold, or the number of the refusal
-pub data Said (A : Type 0) : Type 0 where
-  done : A → Said A
-  refused : ℕ → Said A
-
--- the same, with a list that the call itself wrote beside the others
+-- what a call says, with a list that it wrote itself beside the others
 abbrev pub also : {A B : Type 0} → Said A → B → Said (A × B)
 also (Said.done v) w = Said.done (v, w)
 also (Said.refused n) w = Said.refused n
@@ -25,6 +21,6 @@ unfoldable pub given : {A : Type 0} → Said A → A → Left A
 given (Said.done v) before = left 0 v
 given (Said.refused n) before = left n before
 
--- a state or a result list of another length is 2, before everything else
+-- a state or a result list of another length is 2, before everything else; so is a storage that no lent length can equal, where bytes are lent
 unfoldable pub exported : {A : Type 0} → Bool → Said A → A → Left A
 exported lengths said before = cond lengths (given said before) (left 2 before)

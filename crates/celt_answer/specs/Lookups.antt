@@ -1,12 +1,8 @@
--- What the answers of rate_cache say.
+-- What the answers of rate_cache say, in lists.
 use Prim.Native.Nat.{ℕ}
 use mathlib.Core.List.{List, [], _∷_}
-use Rattle.rate_cache.specs.declared.Answer.{Answer}
-use Rattle.rate_cache.specs.declared.Answer.the-variants as looked
-use Rattle.celt_answer.specs.Left.{Said}
-use Rattle.celt_answer.specs.Left.Said.{done, refused}
+use Rattle.entcode.specs.Said.{Said, shown}
 
--- what a lookup says: what it found
-abbrev pub saidFound : Answer → Said (List ℕ)
-saidFound (looked.Found n) = done (n ∷ [])
-saidFound (looked.Refused n) = refused n
+-- of a lookup: what it found
+abbrev pub listsFound : Said ℕ → Said (List ℕ)
+listsFound a = shown (λ (n : ℕ). n ∷ []) a

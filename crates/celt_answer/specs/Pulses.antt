@@ -1,19 +1,17 @@
--- What the answers of cwrs say.
+-- What the answers of cwrs say, in lists.
 use Prim.Native.Nat.{ℕ}
 use mathlib.Core.List.{List, [], _∷_}
 use lib.IntN.{ℤ}
+use Rattle.entcode.specs.Said.{Said, shown}
 use Rattle.cwrs.specs.Answer.{Placed}
-use Rattle.cwrs.specs.declared.Decoded.{Decoded}
-use Rattle.cwrs.specs.declared.Decoded.the-variants as read
-use Rattle.celt_answer.specs.Left.{Said, also}
-use Rattle.celt_answer.specs.Left.Said.{done, refused}
+use Rattle.cwrs.specs.declared.Found.{Found}
+use Rattle.celt_answer.specs.Left.{also}
 use Rattle.celt_state.specs.State.{listOfReader}
 
--- what a read says: the next reader's list, and the vector's energy
-abbrev pub saidFound : Decoded → Said (List ℤ × List ℕ)
-saidFound (read.Got f) = done (listOfReader (f .next), f .energy ∷ [])
-saidFound (read.Refused n) = refused n
+-- of a read: the next reader's list, and the vector's energy
+abbrev pub listsFound : Said Found → Said (List ℤ × List ℕ)
+listsFound a = shown (λ (f : Found). (listOfReader (f .next), f .energy ∷ [])) a
 
 -- and the places of the vector beside them
-abbrev pub saidPlaced : Placed → Said ((List ℤ × List ℕ) × List ℤ)
-saidPlaced y = also (saidFound (y .said)) (y .places)
+abbrev pub listsPlaced : Placed → Said ((List ℤ × List ℕ) × List ℤ)
+listsPlaced y = also (listsFound (y .said)) (y .places)

@@ -1,17 +1,14 @@
--- What the answers of listing say.
+-- What the answers of listing say, in lists.
 use Prim.Native.Nat.{ℕ}
 use mathlib.Core.List.{List, [], _∷_}
+use Rattle.entcode.specs.Said.{Said, shown}
 use Rattle.listing.specs.Answer.{Told}
-use Rattle.listing.specs.declared.Listed.{Listed}
-use Rattle.listing.specs.declared.Listed.the-variants as listed
-use Rattle.celt_answer.specs.Left.{Said, also}
-use Rattle.celt_answer.specs.Left.Said.{done, refused}
+use Rattle.celt_answer.specs.Left.{also}
 
--- what an answer says: how many bytes it has
-abbrev pub saidWrote : Listed → Said (List ℕ)
-saidWrote (listed.Wrote n) = done (n ∷ [])
-saidWrote (listed.Refused n) = refused n
+-- of an answer: how many bytes it has
+abbrev pub listsWrote : Said ℕ → Said (List ℕ)
+listsWrote a = shown (λ (n : ℕ). n ∷ []) a
 
 -- and the bytes beside it
-abbrev pub saidTold : Told → Said (List ℕ × List ℕ)
-saidTold y = also (saidWrote (y .said)) (y .lent)
+abbrev pub listsTold : Told → Said (List ℕ × List ℕ)
+listsTold y = also (listsWrote (y .said)) (y .lent)

@@ -1,20 +1,18 @@
--- What the answers of vq say.
+-- What the answers of vq say, in lists.
 use Prim.Native.Nat.{ℕ}
 use mathlib.Core.List.{List, [], _∷_}
 use lib.IntN.{ℤ}
 use lib.Ieee.{Float}
+use Rattle.entcode.specs.Said.{Said, shown}
 use Rattle.vq.specs.Answer.{Formed}
-use Rattle.vq.specs.declared.Shaped.{Shaped}
-use Rattle.vq.specs.declared.Shaped.the-variants as read
-use Rattle.celt_answer.specs.Left.{Said, also}
-use Rattle.celt_answer.specs.Left.Said.{done, refused}
+use Rattle.vq.specs.declared.ReadShape.{ReadShape}
+use Rattle.celt_answer.specs.Left.{also}
 use Rattle.celt_state.specs.State.{listOfReader}
 
--- what a read says: the next reader's list, and the collapse mask
-abbrev pub saidMask : Shaped → Said (List ℤ × List ℕ)
-saidMask (read.Got y) = done (listOfReader (y .next), y .mask ∷ [])
-saidMask (read.Refused n) = refused n
+-- of a read: the next reader's list, and the collapse mask
+abbrev pub listsMask : Said ReadShape → Said (List ℤ × List ℕ)
+listsMask a = shown (λ (y : ReadShape). (listOfReader (y .next), y .mask ∷ [])) a
 
 -- and the shape beside them
-abbrev pub saidFormed : Formed → Said ((List ℤ × List ℕ) × List Float)
-saidFormed y = also (saidMask (y .said)) (y .shape)
+abbrev pub listsFormed : Formed → Said ((List ℤ × List ℕ) × List Float)
+listsFormed y = also (listsMask (y .said)) (y .shape)

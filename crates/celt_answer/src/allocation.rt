@@ -6,8 +6,9 @@ use rate::AllocWrote;
 ghost use mathlib.Core.Path.{_≡_};
 ghost use lib.ListN.{length};
 ghost use Rattle.rate.specs.Question.{lists, numbers};
+ghost use Rattle.rate.specs.Answer.{saidRead, saidWrote};
 ghost use Rattle.celt_answer.specs.Left.{left, given};
-ghost use Rattle.celt_answer.specs.Allocation.{four, saidRead, saidWrote};
+ghost use Rattle.celt_answer.specs.Allocation.{four, listsRead, listsWrote};
 
 // The four numbers of an allocation into a list.
 fn put_four(shown: &mut [i32], coded: i32, balance: i32, intensity: i32, dual: i32)
@@ -23,7 +24,7 @@ fn put_four(shown: &mut [i32], coded: i32, balance: i32, intensity: i32, dual: i
 // What reading leaves beside the lists of the bands.
 pub fn leave_alloc_read(a: AllocRead, state: &mut [i64], shown: &mut [i32]) -> u32
     requires { ⌜ (length (now state) ≡ 12) × (length (now shown) ≡ 4) ⌝ }
-    ensures { λ r. ⌜ left r (now (state .exit), now (shown .exit)) ≡ given (saidRead a) (now (state .entry), now (shown .entry)) ⌝ }
+    ensures { λ r. ⌜ left r (now (state .exit), now (shown .exit)) ≡ given (listsRead (saidRead a)) (now (state .entry), now (shown .entry)) ⌝ }
 {
     match a {
         AllocRead::Got(y) => {
@@ -38,7 +39,7 @@ pub fn leave_alloc_read(a: AllocRead, state: &mut [i64], shown: &mut [i32]) -> u
 // What writing leaves beside the lists of the bands and the bytes.
 pub fn leave_alloc_write(a: AllocWrote, state: &mut [i64], shown: &mut [i32]) -> u32
     requires { ⌜ (length (now state) ≡ 12) × (length (now shown) ≡ 4) ⌝ }
-    ensures { λ r. ⌜ left r (now (state .exit), now (shown .exit)) ≡ given (saidWrote a) (now (state .entry), now (shown .entry)) ⌝ }
+    ensures { λ r. ⌜ left r (now (state .exit), now (shown .exit)) ≡ given (listsWrote (saidWrote a)) (now (state .entry), now (shown .entry)) ⌝ }
 {
     match a {
         AllocWrote::Got(y) => {

@@ -5,13 +5,15 @@ use entdec::Answer;
 use entdec::Started;
 ghost use mathlib.Core.Path.{_≡_};
 ghost use lib.ListN.{length};
+ghost use Rattle.entcode.specs.Counts.{saidTold};
+ghost use Rattle.entdec.specs.Answer.{said, saidStart};
 ghost use Rattle.celt_answer.specs.Left.{left, given};
-ghost use Rattle.celt_answer.specs.Dec.{saidStart, saidRead, saidTold};
+ghost use Rattle.celt_answer.specs.Dec.{listsStart, listsRead, listsTold};
 
 // What a start leaves.
 pub fn leave_start(a: Started, state: &mut [i64]) -> u32
     requires { ⌜ length (now state) ≡ 12 ⌝ }
-    ensures { λ r. ⌜ left r (now (state .exit)) ≡ given (saidStart a) (now (state .entry)) ⌝ }
+    ensures { λ r. ⌜ left r (now (state .exit)) ≡ given (listsStart (saidStart a)) (now (state .entry)) ⌝ }
 {
     match a {
         Started::At(d) => {
@@ -25,7 +27,7 @@ pub fn leave_start(a: Started, state: &mut [i64]) -> u32
 // What a read leaves.
 pub fn leave_read(a: Answer, state: &mut [i64], value: &mut [u32]) -> u32
     requires { ⌜ (length (now state) ≡ 12) × (length (now value) ≡ 1) ⌝ }
-    ensures { λ r. ⌜ left r (now (state .exit), now (value .exit)) ≡ given (saidRead a) (now (state .entry), now (value .entry)) ⌝ }
+    ensures { λ r. ⌜ left r (now (state .exit), now (value .exit)) ≡ given (listsRead (said a)) (now (state .entry), now (value .entry)) ⌝ }
 {
     match a {
         Answer::Got(y) => {
@@ -40,7 +42,7 @@ pub fn leave_read(a: Answer, state: &mut [i64], value: &mut [u32]) -> u32
 // What tell leaves.
 pub fn leave_told(t: Told, value: &mut [u32]) -> u32
     requires { ⌜ length (now value) ≡ 1 ⌝ }
-    ensures { λ r. ⌜ left r (now (value .exit)) ≡ given (saidTold t) (now (value .entry)) ⌝ }
+    ensures { λ r. ⌜ left r (now (value .exit)) ≡ given (listsTold (saidTold t)) (now (value .entry)) ⌝ }
 {
     match t {
         Told::Used(n) => {

@@ -3,13 +3,14 @@ use celt_state::store::store_reader;
 use vq::Shaped;
 ghost use mathlib.Core.Path.{_≡_};
 ghost use lib.ListN.{length};
+ghost use Rattle.vq.specs.Answer.{said};
 ghost use Rattle.celt_answer.specs.Left.{left, given};
-ghost use Rattle.celt_answer.specs.Shapes.{saidMask};
+ghost use Rattle.celt_answer.specs.Shapes.{listsMask};
 
 // What a read leaves beside the shape.
 pub fn leave_shape(a: Shaped, state: &mut [i64], mask: &mut [u32]) -> u32
     requires { ⌜ (length (now state) ≡ 12) × (length (now mask) ≡ 1) ⌝ }
-    ensures { λ r. ⌜ left r (now (state .exit), now (mask .exit)) ≡ given (saidMask a) (now (state .entry), now (mask .entry)) ⌝ }
+    ensures { λ r. ⌜ left r (now (state .exit), now (mask .exit)) ≡ given (listsMask (said a)) (now (state .entry), now (mask .entry)) ⌝ }
 {
     match a {
         Shaped::Got(y) => {

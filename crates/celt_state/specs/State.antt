@@ -55,6 +55,10 @@ isState l = isLong 12 l
 abbrev pub entry : List ℤ → ℕ → ℤ
 entry l i = getD l i (pos 0)
 
+-- it can hold a state whose storage the length of lent bytes can equal: a number that does not fit a count is unlike every length
+abbrev pub isStored : List ℤ → Bool
+isStored l = isState l && isCount (entry l 0)
+
 -- every count of a reader fits
 abbrev pub readerFits : List ℤ → Bool
 readerFits l = every isCount (take 10 l)

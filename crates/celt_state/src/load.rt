@@ -11,6 +11,7 @@ ghost use Rattle.celt_state.specs.State.{
   heldOf,
   heldFits,
   entry,
+  isStored,
   readerFits,
   writerFits,
   readerOf,
@@ -50,6 +51,16 @@ fn nine_fit(state: &[i64]) -> bool
         & fits_at(state, 6)
         & fits_at(state, 7)
         & fits_at(state, 8)
+}
+
+// Whether a list can hold a state whose storage a lent length can equal. No number is read before the list's length is known.
+pub fn is_stored(state: &[i64]) -> bool
+    ensures { λ r. ⌜ r ≡ isStored (now (state .entry)) ⌝ }
+{
+    if state.len() == 12 {
+        return fits_at(state, 0);
+    }
+    false
 }
 
 // A number that fits, at a place, as a count.

@@ -4,6 +4,7 @@ use mathlib.Core.Path.{_≡_, refl, ap, _∙_}
 use mathlib.Core.List.{List, _++_}
 use lib.IntN.{ℤ}
 use lib.ListN.{take, drop}
+use Rattle.entcode.specs.Said.{answer, lentAfter}
 use Rattle.entcode.specs.Sym.Shape.{uint}
 use Rattle.entdec.specs.declared.Reader.{Reader}
 use Rattle.entdec.specs.declared.Read.{Read}
@@ -14,23 +15,18 @@ use Rattle.cwrs_counts.specs.Count.{Vn, count32}
 use Rattle.cwrs.specs.Word.{energy, index, word}
 use Rattle.cwrs.specs.declared.Found.{Found}
 use Rattle.cwrs.specs.declared.Decoded.the-variants.{Got, Refused}
-use Rattle.cwrs.specs.Answer.{readWord, writeWord, foundOf, placed, answer, numberOf}
+use Rattle.cwrs.specs.Answer.{readWord, writeWord, foundOf, placed, answerR}
 use Rattle.cwrs_counts.proofs.Recurrence.{count-is}
 use Rattle.cwrs.proofs.Back.{word-first}
 
-pub answer-got : (m : ℕ) (f : Found) (v y : List ℤ) → m ≡ 0 → placed (Got f) v ≡ answer m f v y
-unfolding answer
+pub answer-got : (m : ℕ) (f : Found) (v y : List ℤ) → m ≡ 0 → placed (Got f) v ≡ answerR m f v y
+unfolding answer lentAfter
 answer-got m f v y e = rw e
 
-pub answer-refused : (m : ℕ) (f : Found) (v y : List ℤ) → (m ≡ 0 → ⊥) → placed (Refused m) y ≡ answer m f v y
-unfolding answer
+pub answer-refused : (m : ℕ) (f : Found) (v y : List ℤ) → (m ≡ 0 → ⊥) → placed (Refused m) y ≡ answerR m f v y
+unfolding answer lentAfter
 answer-refused zero f v y h = absurd (h refl)
 answer-refused (suc m) f v y h = refl
-
-pub number-of : (m : ℕ) (f : Found) (v y : List ℤ) → numberOf (answer m f v y .said) ≡ m
-unfolding answer
-number-of zero f v y = refl
-number-of (suc m) f v y = refl
 
 -- ---- the worker that reads: v is the count, r what was read, y what stands in the places after it
 module _ (n k : ℕ) (s : List ℕ) (d : Reader) (y₀ : List ℤ) {v : ℕ} {r : Read} {y : List ℤ} (small : Vn n k < 4294967296)

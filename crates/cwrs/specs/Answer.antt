@@ -1,10 +1,12 @@
--- What the public calls answer, by document 01's number of the refusal and the values, and what the lent places then hold.
-use Prim.Native.Nat.{ℕ, zero, suc}
+-- What the public calls say, by document 01's number of the refusal and the values, and what the lent places then hold.
+use Prim.Native.Nat.{ℕ}
 use mathlib.Core.Bool.{Bool, true, cond, _&&_}
 use mathlib.Core.List.{List, _++_}
 use lib.IntN.{ℤ}
 use lib.ListN.{length, take, drop}
 use lib.Dec.{ltb, leb, eqb}
+use Rattle.entcode.specs.Said.{Said, answer, lentAfter}
+use Rattle.entcode.specs.Said.Said.{done, refused}
 use Rattle.entcode.specs.Sym.Shape.{uint}
 use Rattle.entdec.specs.declared.Reader.{Reader}
 use Rattle.entdec.specs.declared.Read.{Read}
@@ -56,27 +58,26 @@ foundOf n k s d = record { energy = energy (readWord n k s d); next = readIndex 
 unfoldable pub refusalRead : ℕ → ℕ → List ℕ → Reader → List ℤ → ℕ
 refusalRead n k s d y = readRefusal (length s) d (isRoom y) (inDomain n k) true (ownRead n k)
 
--- an answer, and the lent places after the call
+-- what an answer of a read says
+abbrev pub said : Decoded → Said Found
+said (Got f) = done f
+said (Refused m) = refused m
+
+-- what is said, and the lent places after the call
 pub record Placed : Type 0 where
-  pub said : Decoded
+  pub said : Said Found
   pub places : List ℤ
 
 abbrev pub placed : Decoded → List ℤ → Placed
-placed r y = record { said = r; places = y }
+placed r y = record { said = said r; places = y }
 
 -- number 0: what was found, with its places; any other: that refusal, and the places as they were
-unfoldable pub answer : ℕ → Found → List ℤ → List ℤ → Placed
-answer zero f v y = placed (Got f) v
-answer (suc m) f v y = placed (Refused (suc m)) y
+abbrev pub answerR : ℕ → Found → List ℤ → List ℤ → Placed
+answerR m f v y = record { said = answer m f; places = lentAfter m v y }
 
 -- a checked read: the vector stands in the first n places, and the others stay
 abbrev pub reading : ℕ → ℕ → List ℕ → Reader → List ℤ → Placed
-reading n k s d y = answer (refusalRead n k s d y) (foundOf n k s d) (readWord n k s d ++ drop n y) y
-
--- document 01's number of an answer, 0 where it is no refusal
-abbrev pub numberOf : Decoded → ℕ
-numberOf (Got f) = 0
-numberOf (Refused m) = m
+reading n k s d y = answerR (refusalRead n k s d y) (foundOf n k s d) (readWord n k s d ++ drop n y) y
 
 -- ---- writing
 
@@ -90,4 +91,4 @@ refusalWrite n k y w = writeRefusal (length (w .bytes)) (w .st) (isRoom y) (inDo
 
 -- a checked write
 abbrev pub writing : ℕ → ℕ → List ℤ → Wr → wrote.After
-writing n k y w = wrote.answer (refusalWrite n k y w) w (writeWord n k y w)
+writing n k y w = wrote.answerW (refusalWrite n k y w) w (writeWord n k y w)

@@ -2,7 +2,8 @@
 use Prim.Native.Nat.{ℕ}
 use Rattle.decided.proofs.One.{one}
 use Rattle.entcode.specs.Sym.Shape.{bit, raw, table, uint}
-use Rattle.held.specs.Held.{allocHeld, coarseHeld, lapHeld, moved, openedOf, readHeld}
+use Rattle.held.proofs.Said.{saidAllocated-same as held-saidAllocated-same, saidEnergies-same as held-saidEnergies-same, saidSymbol-same as held-saidSymbol-same, saidValue-same as held-saidValue-same}
+use Rattle.held.specs.Held.{allocHeld, coarseHeld, lapHeld, moved, openedOf, readHeld, saidAllocated, saidEnergies, saidSymbol, saidValue}
 use Rattle.held.specs.declared.Allocated.{Allocated}
 use Rattle.held.specs.declared.EcDec.{EcDec}
 use Rattle.held.specs.declared.Energies.{Energies}
@@ -20,46 +21,54 @@ use mathlib.Core.Path.{_≡_, ap}
 pub ec-dec-init : (buf : RefT (List ℕ)) (r₁ r₂ : Opened)
     → r₁ ≡ openedOf buf → r₂ ≡ openedOf buf
     → r₁ ≡ r₂
-ec-dec-init buf r₁ r₂ e₁ e₂ = one e₁ e₂
+ec-dec-init buf r₁ r₂ e₁ e₂ =
+    one e₁ e₂
 
 -- ec_dec_bit_logp
 pub ec-dec-bit-logp : (d : EcDec) (logp : ℕ) (r₁ r₂ : Symbol) (d-after₁ d-after₂ : EcDec)
-    → ((r₁ ≡ readHeld (bit logp) d .answer) × (d-after₁ ≡ moved d (readHeld (bit logp) d .next))) → ((r₂ ≡ readHeld (bit logp) d .answer) × (d-after₂ ≡ moved d (readHeld (bit logp) d .next)))
+    → ((saidSymbol r₁ ≡ readHeld (bit logp) d .said) × (d-after₁ ≡ moved d (readHeld (bit logp) d .next))) → ((saidSymbol r₂ ≡ readHeld (bit logp) d .said) × (d-after₂ ≡ moved d (readHeld (bit logp) d .next)))
     → (r₁ ≡ r₂) × (d-after₁ ≡ d-after₂)
-ec-dec-bit-logp d logp r₁ r₂ d-after₁ d-after₂ e₁ e₂ = (one (e₁ .0) (e₂ .0), one (e₁ .1) (e₂ .1))
+ec-dec-bit-logp d logp r₁ r₂ d-after₁ d-after₂ e₁ e₂ =
+    (held-saidSymbol-same (one (e₁ .0) (e₂ .0)), one (e₁ .1) (e₂ .1))
 
 -- ec_dec_uint
 pub ec-dec-uint : (d : EcDec) (ft : ℕ) (r₁ r₂ : Symbol) (d-after₁ d-after₂ : EcDec)
-    → ((r₁ ≡ readHeld (uint ft) d .answer) × (d-after₁ ≡ moved d (readHeld (uint ft) d .next))) → ((r₂ ≡ readHeld (uint ft) d .answer) × (d-after₂ ≡ moved d (readHeld (uint ft) d .next)))
+    → ((saidSymbol r₁ ≡ readHeld (uint ft) d .said) × (d-after₁ ≡ moved d (readHeld (uint ft) d .next))) → ((saidSymbol r₂ ≡ readHeld (uint ft) d .said) × (d-after₂ ≡ moved d (readHeld (uint ft) d .next)))
     → (r₁ ≡ r₂) × (d-after₁ ≡ d-after₂)
-ec-dec-uint d ft r₁ r₂ d-after₁ d-after₂ e₁ e₂ = (one (e₁ .0) (e₂ .0), one (e₁ .1) (e₂ .1))
+ec-dec-uint d ft r₁ r₂ d-after₁ d-after₂ e₁ e₂ =
+    (held-saidSymbol-same (one (e₁ .0) (e₂ .0)), one (e₁ .1) (e₂ .1))
 
 -- ec_dec_icdf
 pub ec-dec-icdf : (d : EcDec) (t : List ℕ) (ftb : ℕ) (r₁ r₂ : Symbol) (d-after₁ d-after₂ : EcDec)
-    → ((r₁ ≡ readHeld (table t ftb) d .answer) × (d-after₁ ≡ moved d (readHeld (table t ftb) d .next))) → ((r₂ ≡ readHeld (table t ftb) d .answer) × (d-after₂ ≡ moved d (readHeld (table t ftb) d .next)))
+    → ((saidSymbol r₁ ≡ readHeld (table t ftb) d .said) × (d-after₁ ≡ moved d (readHeld (table t ftb) d .next))) → ((saidSymbol r₂ ≡ readHeld (table t ftb) d .said) × (d-after₂ ≡ moved d (readHeld (table t ftb) d .next)))
     → (r₁ ≡ r₂) × (d-after₁ ≡ d-after₂)
-ec-dec-icdf d t ftb r₁ r₂ d-after₁ d-after₂ e₁ e₂ = (one (e₁ .0) (e₂ .0), one (e₁ .1) (e₂ .1))
+ec-dec-icdf d t ftb r₁ r₂ d-after₁ d-after₂ e₁ e₂ =
+    (held-saidSymbol-same (one (e₁ .0) (e₂ .0)), one (e₁ .1) (e₂ .1))
 
 -- ec_dec_bits
 pub ec-dec-bits : (d : EcDec) (n : ℕ) (r₁ r₂ : Symbol) (d-after₁ d-after₂ : EcDec)
-    → ((r₁ ≡ readHeld (raw n) d .answer) × (d-after₁ ≡ moved d (readHeld (raw n) d .next))) → ((r₂ ≡ readHeld (raw n) d .answer) × (d-after₂ ≡ moved d (readHeld (raw n) d .next)))
+    → ((saidSymbol r₁ ≡ readHeld (raw n) d .said) × (d-after₁ ≡ moved d (readHeld (raw n) d .next))) → ((saidSymbol r₂ ≡ readHeld (raw n) d .said) × (d-after₂ ≡ moved d (readHeld (raw n) d .next)))
     → (r₁ ≡ r₂) × (d-after₁ ≡ d-after₂)
-ec-dec-bits d n r₁ r₂ d-after₁ d-after₂ e₁ e₂ = (one (e₁ .0) (e₂ .0), one (e₁ .1) (e₂ .1))
+ec-dec-bits d n r₁ r₂ d-after₁ d-after₂ e₁ e₂ =
+    (held-saidSymbol-same (one (e₁ .0) (e₂ .0)), one (e₁ .1) (e₂ .1))
 
 -- ec_laplace_decode
 pub ec-laplace-decode : (d : EcDec) (fs : ℕ) (decay : ℕ) (r₁ r₂ : Value) (d-after₁ d-after₂ : EcDec)
-    → ((r₁ ≡ lapHeld fs decay d .answer) × (d-after₁ ≡ moved d (lapHeld fs decay d .next))) → ((r₂ ≡ lapHeld fs decay d .answer) × (d-after₂ ≡ moved d (lapHeld fs decay d .next)))
+    → ((saidValue r₁ ≡ lapHeld fs decay d .said) × (d-after₁ ≡ moved d (lapHeld fs decay d .next))) → ((saidValue r₂ ≡ lapHeld fs decay d .said) × (d-after₂ ≡ moved d (lapHeld fs decay d .next)))
     → (r₁ ≡ r₂) × (d-after₁ ≡ d-after₂)
-ec-laplace-decode d fs decay r₁ r₂ d-after₁ d-after₂ e₁ e₂ = (one (e₁ .0) (e₂ .0), one (e₁ .1) (e₂ .1))
+ec-laplace-decode d fs decay r₁ r₂ d-after₁ d-after₂ e₁ e₂ =
+    (held-saidValue-same (one (e₁ .0) (e₂ .0)), one (e₁ .1) (e₂ .1))
 
 -- clt_compute_allocation
 pub clt-compute-allocation : (d : EcDec) (c : ℤ) (lm : ℤ) (start : ℤ) (end : ℤ) (trim : ℤ) (total : ℤ) (offsets : List ℤ) (caps : List ℤ) (pulses : List ℤ) (fine : List ℤ) (priorities : List ℤ) (r₁ r₂ : Allocated) (d-after₁ d-after₂ : EcDec) (pulses-after₁ pulses-after₂ : List ℤ) (fine-after₁ fine-after₂ : List ℤ) (priorities-after₁ priorities-after₂ : List ℤ)
-    → ((r₁ ≡ allocHeld (numbers c lm start end trim total) offsets caps (lists pulses fine priorities) d .step .answer) × (d-after₁ ≡ moved d (allocHeld (numbers c lm start end trim total) offsets caps (lists pulses fine priorities) d .step .next)) × (lists pulses-after₁ fine-after₁ priorities-after₁ ≡ allocHeld (numbers c lm start end trim total) offsets caps (lists pulses fine priorities) d .lent)) → ((r₂ ≡ allocHeld (numbers c lm start end trim total) offsets caps (lists pulses fine priorities) d .step .answer) × (d-after₂ ≡ moved d (allocHeld (numbers c lm start end trim total) offsets caps (lists pulses fine priorities) d .step .next)) × (lists pulses-after₂ fine-after₂ priorities-after₂ ≡ allocHeld (numbers c lm start end trim total) offsets caps (lists pulses fine priorities) d .lent))
+    → ((saidAllocated r₁ ≡ allocHeld (numbers c lm start end trim total) offsets caps (lists pulses fine priorities) d .step .said) × (d-after₁ ≡ moved d (allocHeld (numbers c lm start end trim total) offsets caps (lists pulses fine priorities) d .step .next)) × (lists pulses-after₁ fine-after₁ priorities-after₁ ≡ allocHeld (numbers c lm start end trim total) offsets caps (lists pulses fine priorities) d .lent)) → ((saidAllocated r₂ ≡ allocHeld (numbers c lm start end trim total) offsets caps (lists pulses fine priorities) d .step .said) × (d-after₂ ≡ moved d (allocHeld (numbers c lm start end trim total) offsets caps (lists pulses fine priorities) d .step .next)) × (lists pulses-after₂ fine-after₂ priorities-after₂ ≡ allocHeld (numbers c lm start end trim total) offsets caps (lists pulses fine priorities) d .lent))
     → (r₁ ≡ r₂) × (d-after₁ ≡ d-after₂) × (pulses-after₁ ≡ pulses-after₂) × (fine-after₁ ≡ fine-after₂) × (priorities-after₁ ≡ priorities-after₂)
-clt-compute-allocation d c lm start end trim total offsets caps pulses fine priorities r₁ r₂ d-after₁ d-after₂ pulses-after₁ pulses-after₂ fine-after₁ fine-after₂ priorities-after₁ priorities-after₂ e₁ e₂ = (one (e₁ .0) (e₂ .0), one (e₁ .1) (e₂ .1), ap (λ (x : Lists). x .pulses) (one (e₁ .2) (e₂ .2)), ap (λ (x : Lists). x .fine) (one (e₁ .2) (e₂ .2)), ap (λ (x : Lists). x .priorities) (one (e₁ .2) (e₂ .2)))
+clt-compute-allocation d c lm start end trim total offsets caps pulses fine priorities r₁ r₂ d-after₁ d-after₂ pulses-after₁ pulses-after₂ fine-after₁ fine-after₂ priorities-after₁ priorities-after₂ e₁ e₂ =
+    (held-saidAllocated-same (one (e₁ .0) (e₂ .0)), one (e₁ .1) (e₂ .1), ap (λ (x : Lists). x .pulses) (one (e₁ .2) (e₂ .2)), ap (λ (x : Lists). x .fine) (one (e₁ .2) (e₂ .2)), ap (λ (x : Lists). x .priorities) (one (e₁ .2) (e₂ .2)))
 
 -- unquant_coarse_energy
 pub unquant-coarse-energy : (d : EcDec) (energies : List Float) (c : ℤ) (lm : ℤ) (start : ℤ) (end : ℤ) (intra : ℤ) (r₁ r₂ : Energies) (d-after₁ d-after₂ : EcDec) (energies-after₁ energies-after₂ : List Float)
-    → ((r₁ ≡ coarseHeld c lm start end intra energies d .step .answer) × (d-after₁ ≡ moved d (coarseHeld c lm start end intra energies d .step .next)) × (energies-after₁ ≡ coarseHeld c lm start end intra energies d .lent)) → ((r₂ ≡ coarseHeld c lm start end intra energies d .step .answer) × (d-after₂ ≡ moved d (coarseHeld c lm start end intra energies d .step .next)) × (energies-after₂ ≡ coarseHeld c lm start end intra energies d .lent))
+    → ((saidEnergies r₁ ≡ coarseHeld c lm start end intra energies d .step .said) × (d-after₁ ≡ moved d (coarseHeld c lm start end intra energies d .step .next)) × (energies-after₁ ≡ coarseHeld c lm start end intra energies d .lent)) → ((saidEnergies r₂ ≡ coarseHeld c lm start end intra energies d .step .said) × (d-after₂ ≡ moved d (coarseHeld c lm start end intra energies d .step .next)) × (energies-after₂ ≡ coarseHeld c lm start end intra energies d .lent))
     → (r₁ ≡ r₂) × (d-after₁ ≡ d-after₂) × (energies-after₁ ≡ energies-after₂)
-unquant-coarse-energy d energies c lm start end intra r₁ r₂ d-after₁ d-after₂ energies-after₁ energies-after₂ e₁ e₂ = (one (e₁ .0) (e₂ .0), one (e₁ .1) (e₂ .1), one (e₁ .2) (e₂ .2))
+unquant-coarse-energy d energies c lm start end intra r₁ r₂ d-after₁ d-after₂ energies-after₁ energies-after₂ e₁ e₂ =
+    (held-saidEnergies-same (one (e₁ .0) (e₂ .0)), one (e₁ .1) (e₂ .1), one (e₁ .2) (e₂ .2))

@@ -1,8 +1,10 @@
 -- lent: any two results that a contract allows are equal. Written by tools/decided.
 use Prim.Native.Nat.{ℕ}
 use Rattle.decided.proofs.One.{one}
+use Rattle.entcode.specs.Said.Said.{refused}
 use Rattle.entdec.specs.declared.Reader.{Reader}
-use Rattle.lent.specs.Lent.{stepOf}
+use Rattle.lent.proofs.Said.{said-same as lent-said-same}
+use Rattle.lent.specs.Lent.{said, stepOf}
 use Rattle.lent.specs.declared.Applied.{Applied}
 use Rattle.stream.specs.Frame.{call, framed}
 use Rattle.stream.specs.declared.Record.{Record}
@@ -12,6 +14,7 @@ use mathlib.Core.Path.{_≡_}
 
 -- frame
 pub frame : (rec : Record) (d : Reader) (s : List ℕ) (number : ℕ) (c : ℤ) (lm : ℤ) (start : ℤ) (end : ℤ) (intra : ℤ) (r₁ r₂ : Applied) (rec-after₁ rec-after₂ : Record)
-    → ((r₁ ≡ stepOf (framed rec (call d s number c lm start end intra)) .answer) × (rec-after₁ ≡ stepOf (framed rec (call d s number c lm start end intra)) .rec) × ((n : ℕ) → r₁ ≡ Applied.Refused n → rec-after₁ ≡ rec)) → ((r₂ ≡ stepOf (framed rec (call d s number c lm start end intra)) .answer) × (rec-after₂ ≡ stepOf (framed rec (call d s number c lm start end intra)) .rec) × ((n : ℕ) → r₂ ≡ Applied.Refused n → rec-after₂ ≡ rec))
+    → ((said r₁ ≡ stepOf (framed rec (call d s number c lm start end intra)) .said) × (rec-after₁ ≡ stepOf (framed rec (call d s number c lm start end intra)) .rec) × ((n : ℕ) → said r₁ ≡ refused n → rec-after₁ ≡ rec)) → ((said r₂ ≡ stepOf (framed rec (call d s number c lm start end intra)) .said) × (rec-after₂ ≡ stepOf (framed rec (call d s number c lm start end intra)) .rec) × ((n : ℕ) → said r₂ ≡ refused n → rec-after₂ ≡ rec))
     → (r₁ ≡ r₂) × (rec-after₁ ≡ rec-after₂)
-frame rec d s number c lm start end intra r₁ r₂ rec-after₁ rec-after₂ e₁ e₂ = (one (e₁ .0) (e₂ .0), one (e₁ .1) (e₂ .1))
+frame rec d s number c lm start end intra r₁ r₂ rec-after₁ rec-after₂ e₁ e₂ =
+    (lent-said-same (one (e₁ .0) (e₂ .0)), one (e₁ .1) (e₂ .1))

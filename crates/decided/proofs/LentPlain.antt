@@ -2,7 +2,8 @@
 use Prim.Native.Nat.{ℕ}
 use Rattle.decided.proofs.One.{one}
 use Rattle.entdec.specs.declared.Reader.{Reader}
-use Rattle.lent.specs.Lent.{stepOf}
+use Rattle.lent.proofs.Said.{saidStep-same as lent-saidStep-same}
+use Rattle.lent.specs.Lent.{saidStep, stepOf}
 use Rattle.lent.specs.declared.AppliedStep.{AppliedStep}
 use Rattle.stream.specs.Frame.{call, framed}
 use Rattle.stream.specs.declared.Record.{Record}
@@ -12,6 +13,7 @@ use mathlib.Core.Path.{_≡_}
 
 -- plain::frame
 pub plain-frame : (rec : Record) (d : Reader) (s : List ℕ) (number : ℕ) (c : ℤ) (lm : ℤ) (start : ℤ) (end : ℤ) (intra : ℤ) (r₁ r₂ : AppliedStep)
-    → r₁ ≡ stepOf (framed rec (call d s number c lm start end intra)) → r₂ ≡ stepOf (framed rec (call d s number c lm start end intra))
+    → saidStep r₁ ≡ stepOf (framed rec (call d s number c lm start end intra)) → saidStep r₂ ≡ stepOf (framed rec (call d s number c lm start end intra))
     → r₁ ≡ r₂
-plain-frame rec d s number c lm start end intra r₁ r₂ e₁ e₂ = one e₁ e₂
+plain-frame rec d s number c lm start end intra r₁ r₂ e₁ e₂ =
+    lent-saidStep-same (one e₁ e₂)

@@ -1,6 +1,7 @@
 -- saved: any two results that a contract allows are equal. Written by tools/decided.
 use Prim.Native.Nat.{ℕ}
 use Rattle.decided.proofs.One.{one}
+use Rattle.saved.proofs.Said.{said-same as saved-said-same}
 use Rattle.saved.specs.Lines.{After, after, restoring, saving}
 use Rattle.saved.specs.declared.Restored.{Restored}
 use Rattle.saved.specs.declared.Saved.{Saved}
@@ -12,10 +13,12 @@ use mathlib.Core.Path.{_≡_, ap}
 pub save : (rec : Record) (buf : List ℕ) (r₁ r₂ : Saved) (buf-after₁ buf-after₂ : List ℕ)
     → after r₁ buf-after₁ ≡ saving rec buf → after r₂ buf-after₂ ≡ saving rec buf
     → (r₁ ≡ r₂) × (buf-after₁ ≡ buf-after₂)
-save rec buf r₁ r₂ buf-after₁ buf-after₂ e₁ e₂ = (ap (λ (x : After). x .said) (one e₁ e₂), ap (λ (x : After). x .bytes) (one e₁ e₂))
+save rec buf r₁ r₂ buf-after₁ buf-after₂ e₁ e₂ =
+    (saved-said-same (ap (λ (x : After). x .said) (one e₁ e₂)), ap (λ (x : After). x .bytes) (one e₁ e₂))
 
 -- restore
 pub restore : (s : List ℕ) (r₁ r₂ : Restored)
     → r₁ ≡ restoring s → r₂ ≡ restoring s
     → r₁ ≡ r₂
-restore s r₁ r₂ e₁ e₂ = one e₁ e₂
+restore s r₁ r₂ e₁ e₂ =
+    one e₁ e₂

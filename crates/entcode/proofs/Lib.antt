@@ -6,3 +6,4 @@ pub mod Parts
 pub mod Refusals
 pub mod Rule
 pub mod Logs
+pub mod Said

@@ -5,6 +5,8 @@ use lib.Dec.{ltb, leb}
 use Rattle.entcode.specs.declared.Told.{Told}
 use Rattle.entcode.specs.declared.Told.the-variants.{Used, Refused}
 use Rattle.entcode.specs.Tell.{tellOf}
+use Rattle.entcode.specs.Said.{Said, answer}
+use Rattle.entcode.specs.Said.Said.{done, refused}
 
 -- storage 0..1,275; range above 2^23 and at most 2^31; waiting raw bits 0..32; bit count 33..65,535
 unfoldable pub countsOk : ℕ → ℕ → ℕ → ℕ → Bool
@@ -15,6 +17,11 @@ countsOk storage rng waiting total =
 abbrev pub tellOk : ℕ → ℕ → ℕ → Bool
 tellOk storage total rng = leb (tellOf total rng) (8 * storage + 32)
 
--- what tell and tell_frac answer: n, or refusal 1 where the state breaks its rule
-abbrev pub toldOf : Bool → ℕ → Told
-toldOf ok n = cond ok (Used n) (Refused 1)
+-- what an answer of tell or tell_frac says
+abbrev pub saidTold : Told → Said ℕ
+saidTold (Used n) = done n
+saidTold (Refused n) = refused n
+
+-- what tell and tell_frac say: n, or refusal 1 where the state breaks its rule
+abbrev pub toldOf : Bool → ℕ → Said ℕ
+toldOf ok n = answer (cond ok 0 1) n

@@ -1,9 +1,10 @@
 // The range decoder of RFC 6716, section 4.1: a state by value, its bytes lent beside it.
 ghost use mathlib.Core.Path.{_≡_};
-ghost use Rattle.entcode.specs.Counts.{toldOf};
+ghost use Rattle.entcode.specs.Counts.{saidTold, toldOf};
+ghost use Rattle.entcode.specs.Said.{answer};
 ghost use Rattle.entcode.specs.Sym.Shape.{bit, table, uint, raw};
 ghost use Rattle.entcode.specs.Tell.{tellOf, tellFracOf};
-ghost use Rattle.entdec.specs.Answer.{answer, startOf};
+ghost use Rattle.entdec.specs.Answer.{said, saidStart, startOf};
 ghost use Rattle.entdec.specs.Rule.{readerOk, refusalR};
 ghost use Rattle.entdec.specs.Symbols.{readSym};
 use entcode::Told;
@@ -49,7 +50,7 @@ pub enum Started {
 impl Reader {
     // A reader of a packet, section 4.1.1.
     pub fn new(s: &[u8]) -> Started
-        ensures { λ r. ⌜ r ≡ startOf (now (s .entry)) ⌝ }
+        ensures { λ r. ⌜ saidStart r ≡ startOf (now (s .entry)) ⌝ }
     {
         let n = s.len();
         if n <= 1275 {
@@ -76,7 +77,7 @@ impl Reader {
 
     // One bit that is 1 with a probability of 1 in 2^logp, section 4.1.3.2.
     pub fn bit_logp(self, s: &[u8], logp: u32) -> Answer
-        ensures { λ r. ⌜ r ≡ answer (refusalR (bit logp) (now (s .entry)) self) (readSym (bit logp) (now (s .entry)) self) ⌝ }
+        ensures { λ r. ⌜ said r ≡ answer (refusalR (bit logp) (now (s .entry)) self) (readSym (bit logp) (now (s .entry)) self) ⌝ }
     {
         let n = self.refusal(s.len(), true, (1 <= logp) & (logp <= 15), true, 0);
         if n == 0 {
@@ -89,7 +90,7 @@ impl Reader {
     // A symbol of a table of 2^ftb places, section 4.1.3.3.
     pub fn icdf(self, s: &[u8], t: &[u8], ftb: u32) -> Answer
         ensures { λ r.
-            ⌜ r ≡ answer (refusalR (table (now (t .entry)) ftb) (now (s .entry)) self) (readSym (table (now (t .entry)) ftb) (now (s .entry)) self) ⌝ }
+            ⌜ said r ≡ answer (refusalR (table (now (t .entry)) ftb) (now (s .entry)) self) (readSym (table (now (t .entry)) ftb) (now (s .entry)) self) ⌝ }
     {
         let n = self.refusal_table(s.len(), t, ftb);
         if n == 0 {
@@ -101,7 +102,7 @@ impl Reader {
 
     // A number below ft, all alike, section 4.1.5.
     pub fn uint(self, s: &[u8], ft: u32) -> Answer
-        ensures { λ r. ⌜ r ≡ answer (refusalR (uint ft) (now (s .entry)) self) (readSym (uint ft) (now (s .entry)) self) ⌝ }
+        ensures { λ r. ⌜ said r ≡ answer (refusalR (uint ft) (now (s .entry)) self) (readSym (uint ft) (now (s .entry)) self) ⌝ }
     {
         let n = self.refusal(s.len(), true, (2 <= ft) & (ft <= 4294967295), true, 0);
         if n == 0 {
@@ -113,7 +114,7 @@ impl Reader {
 
     // n raw bits from the end of the packet, section 4.1.4.
     pub fn bits(self, s: &[u8], n: u32) -> Answer
-        ensures { λ r. ⌜ r ≡ answer (refusalR (raw n) (now (s .entry)) self) (readSym (raw n) (now (s .entry)) self) ⌝ }
+        ensures { λ r. ⌜ said r ≡ answer (refusalR (raw n) (now (s .entry)) self) (readSym (raw n) (now (s .entry)) self) ⌝ }
     {
         let no = self.refusal(s.len(), true, (1 <= n) & (n <= 25), true, 0);
         if no == 0 {
@@ -125,7 +126,7 @@ impl Reader {
 
     // How many bits are used, section 4.1.6.1.
     pub fn tell(self) -> Told
-        ensures { λ r. ⌜ r ≡ toldOf (readerOk self) (tellOf (self .total) (self .rng)) ⌝ }
+        ensures { λ r. ⌜ saidTold r ≡ toldOf (readerOk self) (tellOf (self .total) (self .rng)) ⌝ }
     {
         if self.sound() {
             Told::Used(entcode::tell_of(self.total, self.rng))
@@ -136,7 +137,7 @@ impl Reader {
 
     // How many eighths of a bit are used, section 4.1.6.2.
     pub fn tell_frac(self) -> Told
-        ensures { λ r. ⌜ r ≡ toldOf (readerOk self) (tellFracOf (self .total) (self .rng)) ⌝ }
+        ensures { λ r. ⌜ saidTold r ≡ toldOf (readerOk self) (tellFracOf (self .total) (self .rng)) ⌝ }
     {
         if self.sound() {
             Told::Used(entcode::tell_frac_of(self.total, self.rng))

@@ -1,46 +1,44 @@
--- What an answer tells: its number, and where it is a refusal, bytes as they were. Assumes nothing.
+-- What is said: the enum told back from it, so that two that say the same are one; and the lent length, which stays. Assumes nothing.
 use Prim.Native.Nat.{ℕ, zero, suc}
 use mathlib.Core.Path.{_≡_, refl}
+use mathlib.Core.List.{List}
 use lib.ListN.{length}
+use Rattle.entcode.specs.Said.{Said, lentAfter}
+use Rattle.entcode.specs.Said.Said.{done, refused}
 use Rattle.entcode.specs.Sym.{Shape}
-use Rattle.entenc.specs.declared.Answer.the-variants.{Next}
+use Rattle.entcode.proofs.Said.{alike}
+use Rattle.entenc.specs.declared.Writer.{Writer}
+use Rattle.entenc.specs.declared.Answer.{Answer}
+use Rattle.entenc.specs.declared.Answer.the-variants.{Next, Refused}
 use Rattle.entenc.specs.Write.{Wr}
 use Rattle.entenc.specs.Close.{closeW}
 use Rattle.entenc.specs.Symbols.{writeSym}
 use Rattle.entenc.specs.Rule.{refusalW, refusalClose}
-use Rattle.entenc.specs.Answer.{answer, numberOf, writing, closing}
+use Rattle.entenc.specs.Answer.{said, writing, closing}
 use Rattle.entenc.proofs.Sticky.{write-long, close-long}
 
-pub number-said : (n : ℕ) (w w′ : Wr) → numberOf (answer n w w′ .said) ≡ n
-unfolding answer
-number-said zero w w′ = refl
-number-said (suc n) w w′ = refl
+-- the answer that says this
+abbrev pub back : Said Writer → Answer
+back (done w) = Next w
+back (refused n) = Refused n
 
--- a refused call leaves the bytes
-pub bytes-refused : (n : ℕ) (w w′ : Wr) → (n ≡ 0 → ⊥) → answer n w w′ .bytes ≡ w .bytes
-unfolding answer
-bytes-refused zero w w′ h = absurd (h refl)
-bytes-refused (suc n) w w′ h = refl
+-- telling it back gives the answer
+pub said-back : (r : Answer) → back (said r) ≡ r
+said-back (Next w) = refl
+said-back (Refused n) = refl
 
--- a finished one answers the writer, and leaves its bytes
-pub said-next : (n : ℕ) (w w′ : Wr) → n ≡ 0 → (answer n w w′ .said ≡ Next (w′ .st)) × (answer n w w′ .bytes ≡ w′ .bytes)
-unfolding answer
-said-next n w w′ h = rw h (refl, refl)
+-- two that say the same are one
+pub said-same : {a b : Answer} → said a ≡ said b → a ≡ b
+said-same e = alike said back said-back e
 
-long-said : (n : ℕ) (w w′ : Wr) → length (w′ .bytes) ≡ length (w .bytes) → length (answer n w w′ .bytes) ≡ length (w .bytes)
-unfolding answer
-long-said zero w w′ h = h
-long-said (suc n) w w′ h = refl
+long-said : (n : ℕ) (written before : List ℕ) → length written ≡ length before → length (lentAfter n written before) ≡ length before
+unfolding lentAfter
+long-said zero written before h = h
+long-said (suc n) written before h = refl
 
 -- refused or not, the lent length stays
 pub writing-long : (h : Shape) (v : ℕ) (w : Wr) → length (writing h v w .bytes) ≡ length (w .bytes)
-writing-long h v w = long-said (refusalW h v w) w (writeSym h v w) (write-long h v w)
+writing-long h v w = long-said (refusalW h v w) (writeSym h v w .bytes) (w .bytes) (write-long h v w)
 
 pub closing-long : (w : Wr) → length (closing w .bytes) ≡ length (w .bytes)
-closing-long w = long-said (refusalClose w) w (closeW w) (close-long w)
-
-pub number-writing : (h : Shape) (v : ℕ) (w : Wr) → numberOf (writing h v w .said) ≡ refusalW h v w
-number-writing h v w = number-said (refusalW h v w) w (writeSym h v w)
-
-pub number-closing : (w : Wr) → numberOf (closing w .said) ≡ refusalClose w
-number-closing w = number-said (refusalClose w) w (closeW w)
+closing-long w = long-said (refusalClose w) (closeW w .bytes) (w .bytes) (close-long w)

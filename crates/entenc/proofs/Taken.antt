@@ -9,6 +9,7 @@ use lib.ListN.{length}
 use lib.Dec.{ltb, leb}
 use borrow.Author.Tests.{ltb-true, leb-true, eqb-true, lt-ltb, le-leb}
 use Rattle.entcode.specs.Counts.{tellOk}
+use Rattle.entcode.specs.Said.{answer, lentAfter}
 use Rattle.entcode.specs.Sym.{Shape, falls, lengthOk, shapeOk, listOk, valueOk}
 use Rattle.entcode.specs.Sym.Shape.{bit, table, uint, raw}
 use Rattle.entcode.proofs.Rule.{Counts, counts, counts-ok}
@@ -17,7 +18,7 @@ use Rattle.entenc.specs.declared.Writer.{Writer}
 use Rattle.entenc.specs.declared.Answer.the-variants.{Next, Refused}
 use Rattle.entenc.specs.Write.{Wr}
 use Rattle.entenc.specs.Rule.{writerOk, isLive, writeRefusal, refusalW, refusalClose}
-use Rattle.entenc.specs.Answer.{after, answer}
+use Rattle.entenc.specs.Answer.{after, answerW}
 use Rattle.entenc.specs.Ready.{Sound, Ready}
 
 -- ---- the rule of a writer, as facts
@@ -162,19 +163,19 @@ close-needs n w e z =
 
 -- ---- the two answers, n being what the gate gave
 
-next-is : (k : ℕ) (w v : Wr) → k ≡ 0 → after (Next (v .st)) (v .bytes) ≡ answer k w v
-unfolding answer
+next-is : (k : ℕ) (w v : Wr) → k ≡ 0 → after (Next (v .st)) (v .bytes) ≡ answerW k w v
+unfolding answer lentAfter
 next-is zero w v h = refl
 next-is (suc k) w v h = absurd (suc-ne-zero k h)
 
-no-is : (k : ℕ) (w v : Wr) → (k ≡ 0 → ⊥) → after (Refused k) (w .bytes) ≡ answer k w v
-unfolding answer
+no-is : (k : ℕ) (w v : Wr) → (k ≡ 0 → ⊥) → after (Refused k) (w .bytes) ≡ answerW k w v
+unfolding answer lentAfter
 no-is zero w v h = absurd (h refl)
 no-is (suc k) w v h = refl
 
 module _ (n k : ℕ) (w v : Wr) (e : n ≡ k) where
-  pub say-next : (w′ : Wr) → n ≡ 0 → w′ ≡ v → after (Next (w′ .st)) (w′ .bytes) ≡ answer k w v
+  pub say-next : (w′ : Wr) → n ≡ 0 → w′ ≡ v → after (Next (w′ .st)) (w′ .bytes) ≡ answerW k w v
   say-next w′ z h = rw h (next-is k w v (sym e ∙ z))
 
-  pub say-no : (n ≡ 0 → ⊥) → after (Refused n) (w .bytes) ≡ answer k w v
-  say-no z = no-is n w v z ∙ ap (λ (i : ℕ). answer i w v) e
+  pub say-no : (n ≡ 0 → ⊥) → after (Refused n) (w .bytes) ≡ answerW k w v
+  say-no z = no-is n w v z ∙ ap (λ (i : ℕ). answerW i w v) e

@@ -2,11 +2,11 @@
 ghost use mathlib.Core.Path.{_≡_};
 ghost use lib.ListN.{length};
 ghost use Rattle.entcode.specs.Tell.{tellOf, tellFracOf};
-ghost use Rattle.entcode.specs.Counts.{toldOf};
+ghost use Rattle.entcode.specs.Counts.{saidTold, toldOf};
 ghost use Rattle.entcode.specs.Sym.Shape.{bit, table, uint, raw};
 ghost use Rattle.entenc.specs.Write.{wr};
 ghost use Rattle.entenc.specs.Rule.{writerOk};
-ghost use Rattle.entenc.specs.Answer.{after, startOf, writing, closing};
+ghost use Rattle.entenc.specs.Answer.{said, after, startOf, writing, closing};
 use entcode::Told;
 use entout::Sink;
 
@@ -38,7 +38,7 @@ pub enum Answer {
 impl Writer {
     // A new writer over the lent bytes, RFC 6716, section 5.1.
     pub fn new(buf: &[u8]) -> Answer
-        ensures { λ r. ⌜ r ≡ startOf (length (now (buf .entry))) ⌝ }
+        ensures { λ r. ⌜ said r ≡ startOf (length (now (buf .entry))) ⌝ }
     {
         let n = buf.len();
         if n <= 1275 {
@@ -67,7 +67,7 @@ impl Writer {
 
     // How many bits are used, RFC 6716, section 4.1.6.1.
     pub fn tell(self) -> Told
-        ensures { λ r. ⌜ r ≡ toldOf (writerOk self) (tellOf (self .total) (self .rng)) ⌝ }
+        ensures { λ r. ⌜ saidTold r ≡ toldOf (writerOk self) (tellOf (self .total) (self .rng)) ⌝ }
     {
         if self.sound() {
             Told::Used(entcode::tell_of(self.total, self.rng))
@@ -78,7 +78,7 @@ impl Writer {
 
     // How many eighths of a bit are used, RFC 6716, section 4.1.6.2.
     pub fn tell_frac(self) -> Told
-        ensures { λ r. ⌜ r ≡ toldOf (writerOk self) (tellFracOf (self .total) (self .rng)) ⌝ }
+        ensures { λ r. ⌜ saidTold r ≡ toldOf (writerOk self) (tellFracOf (self .total) (self .rng)) ⌝ }
     {
         if self.sound() {
             Told::Used(entcode::tell_frac_of(self.total, self.rng))

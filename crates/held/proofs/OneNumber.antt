@@ -11,24 +11,23 @@ use base.Logic.{emp}
 use contract.Monad.{fact}
 use denote.Ref.{now}
 use denote.Triple.Clauses.{Clauses}
-use Rattle.held.specs.Held.{moved}
-use Rattle.held.specs.declared.Step.{Step}
+use Rattle.held.specs.Held.{Stepped, moved, saidStep, saidSymbol}
 use Rattle.entdec.specs.declared.Reader.{Reader}
 use Rattle.held.proofs.plain.uint as plain
 use Rattle.held.proofs.ec_dec_uint as lent
 
 -- a read by value: of the number that is asked, the packet and the reader's numbers
 abbrev pub Reading : Type 0
-Reading = ℕ → List ℕ → Reader → Step
+Reading = ℕ → List ℕ → Reader → Stepped ℕ
 
 module _ {M : Type 1} (𝓤 : URA M) (F : Reading) where
   abbrev pub by-value : Clauses 𝓤 plain.ended
-  by-value κs a = record { ghost = Unit {0}; requires = λ _. emp 𝓤; ensures = λ _ r e. fact 𝓤 (r ≡ F (a .1 .1 .0) (now (a .1 .0)) (a .0)) }
+  by-value κs a = record { ghost = Unit {0}; requires = λ _. emp 𝓤; ensures = λ _ r e. fact 𝓤 (saidStep r ≡ F (a .1 .1 .0) (now (a .1 .0)) (a .0)) }
 
   abbrev pub on-held : Clauses 𝓤 lent.ended
   on-held κs a = record {
     ghost = Unit {0};
     requires = λ _. emp 𝓤;
     ensures = λ _ r e.
-        fact 𝓤 ((r ≡ F (a .1 .0) (now (now (a .0) .buf)) (now (a .0) .num) .answer) × (now (e .0) ≡ moved (now (a .0)) (F (a .1 .0) (now (now (a .0) .buf)) (now (a .0) .num) .next)));
+        fact 𝓤 ((saidSymbol r ≡ F (a .1 .0) (now (now (a .0) .buf)) (now (a .0) .num) .said) × (now (e .0) ≡ moved (now (a .0)) (F (a .1 .0) (now (now (a .0) .buf)) (now (a .0) .num) .next)));
   }

@@ -1,40 +1,40 @@
--- What a reader that holds its packet answers, and how it moves: the answers of the calls by value, of its packet and its numbers.
+-- What a reader that holds its packet says, and how it moves: what is said by the calls by value, of its packet and its numbers.
 use Prim.Native.Nat.{ℕ}
 use mathlib.Core.Bool.{true}
 use mathlib.Core.List.{List}
 use lib.IntN.{ℤ}
 use lib.Ieee.{Float}
 use denote.Ref.{RefT, now}
+use Rattle.entcode.specs.Said.{Said, answer}
+use Rattle.entcode.specs.Said.Said.{done, refused}
 use Rattle.entcode.specs.Sym.{Shape}
 use Rattle.entdec.specs.declared.Reader.{Reader}
-use Rattle.entdec.specs.declared.Answer.{Answer}
-use Rattle.entdec.specs.declared.Answer.the-variants as read
-use Rattle.entdec.specs.declared.Started.{Started}
-use Rattle.entdec.specs.declared.Started.the-variants as started
-use Rattle.entdec.specs.Answer.{answer, startOf}
+use Rattle.entdec.specs.declared.Read.{Read}
+use Rattle.entdec.specs.Answer.{startOf}
 use Rattle.entdec.specs.Rule.{refusalR}
 use Rattle.entdec.specs.Symbols.{readSym}
-use Rattle.laplace.specs.declared.LapRead.{LapRead}
-use Rattle.laplace.specs.declared.LapRead.the-variants as lap
+use Rattle.laplace.specs.declared.LapSym.{LapSym}
 use Rattle.laplace.specs.Answer.{reading}
 use Rattle.rate.specs.declared.Numbers.{Numbers}
-use Rattle.rate.specs.declared.AllocRead.{AllocRead}
-use Rattle.rate.specs.declared.AllocRead.the-variants as alloc
+use Rattle.rate.specs.declared.ReadAllocation.{ReadAllocation}
 use Rattle.rate.specs.Question.{Lists}
 use Rattle.rate.specs.Answer.{Read as AllocAnswer, reading as allocating}
-use Rattle.quant_bands.specs.declared.EnergyRead.{EnergyRead}
-use Rattle.quant_bands.specs.declared.EnergyRead.the-variants as energy
 use Rattle.quant_bands.specs.Answer.{After as EnergyAnswer, coarseReading}
 use Rattle.held.specs.declared.EcDec.{EcDec}
 use Rattle.held.specs.declared.Opened.{Opened}
 use Rattle.held.specs.declared.Begun.{Begun}
 use Rattle.held.specs.declared.Step.{Step}
+use Rattle.held.specs.declared.Symbol.{Symbol}
 use Rattle.held.specs.declared.Symbol.the-variants as symbol
 use Rattle.held.specs.declared.ValueStep.{ValueStep}
+use Rattle.held.specs.declared.Value.{Value}
 use Rattle.held.specs.declared.Value.the-variants as value
 use Rattle.held.specs.declared.AllocStep.{AllocStep}
+use Rattle.held.specs.declared.Allocation.{Allocation}
+use Rattle.held.specs.declared.Allocated.{Allocated}
 use Rattle.held.specs.declared.Allocated.the-variants as allocated
 use Rattle.held.specs.declared.EnergiesStep.{EnergiesStep}
+use Rattle.held.specs.declared.Energies.{Energies}
 use Rattle.held.specs.declared.Energies.the-variants as energies
 
 -- the reader after a call: the same packet, other numbers
@@ -49,78 +49,118 @@ noReader =
     record { storage = 0; offs = 0; ends = 0; window = 0; waiting = 0; total = 0; rng = 0; val = 0; ext = 0; rem = 0; error = true }
 
 -- the numbers of a new reader and 0, or those and the number of the refusal
-abbrev pub begunOf : Started → Begun
-begunOf (started.At d) = record { num = d; code = 0 }
-begunOf (started.Refused n) = record { num = noReader; code = n }
+abbrev pub begunOf : Said Reader → Begun
+begunOf (done d) = record { num = d; code = 0 }
+begunOf (refused n) = record { num = noReader; code = n }
 
 -- a reader of the packet s
 abbrev pub openedOf : RefT (List ℕ) → Opened
 openedOf s = record { dec = record { buf = s; num = begunOf (startOf (now s)) .num }; code = begunOf (startOf (now s)) .code }
 
+-- ---- what is said, apart from the numbers
+
+-- what is said, and the numbers after it
+pub record Stepped (A : Type 0) : Type 0 where
+  pub said : Said A
+  pub next : Reader
+
+abbrev pub stepped : {A : Type 0} → Said A → Reader → Stepped A
+stepped a d = record { said = a; next = d }
+
+-- what is said to d by value, apart: the value or the refusal, and the numbers after it, which a refusal leaves
+abbrev pub apart : {A B : Type 0} → (A → B) → (A → Reader) → Reader → Said A → Stepped B
+apart value next d (done y) = stepped (done (value y)) (next y)
+apart value next d (refused n) = stepped (refused n) d
+
+-- that, and what was lent for writing after the call
+pub record After (A L : Type 0) : Type 0 where
+  pub step : Stepped A
+  pub lent : L
+
+abbrev pub both : {A L : Type 0} → Stepped A → L → After A L
+both r l = record { step = r; lent = l }
+
 -- ---- a symbol
 
--- what was answered to d, apart: the value or the refusal, and the numbers after it, which a refusal leaves
-abbrev pub stepOf : Reader → Answer → Step
-stepOf d (read.Got y) = record { answer = symbol.Got (y .value); next = y .next }
-stepOf d (read.Refused n) = record { answer = symbol.Refused n; next = d }
+-- what an answer says
+abbrev pub saidSymbol : Symbol → Said ℕ
+saidSymbol (symbol.Got v) = done v
+saidSymbol (symbol.Refused n) = refused n
+
+-- with the numbers after it
+abbrev pub saidStep : Step → Stepped ℕ
+saidStep r = stepped (saidSymbol (r .answer)) (r .next)
+
+abbrev pub stepOf : Reader → Said Read → Stepped ℕ
+stepOf d a = apart (λ (y : Read). y .value) (λ (y : Read). y .next) d a
 
 -- the read of a symbol by value, apart
-abbrev pub readStep : Shape → List ℕ → Reader → Step
+abbrev pub readStep : Shape → List ℕ → Reader → Stepped ℕ
 readStep h s d = stepOf d (answer (refusalR h s d) (readSym h s d))
 
 -- the same, of what a reader holds
-abbrev pub readHeld : Shape → EcDec → Step
+abbrev pub readHeld : Shape → EcDec → Stepped ℕ
 readHeld h r = readStep h (now (r .buf)) (r .num)
 
 -- ---- a Laplace value
 
-abbrev pub lapOf : Reader → LapRead → ValueStep
-lapOf d (lap.Got y) = record { answer = value.Got (y .value); next = y .next }
-lapOf d (lap.Refused n) = record { answer = value.Refused n; next = d }
+-- what an answer says
+abbrev pub saidValue : Value → Said ℤ
+saidValue (value.Got v) = done v
+saidValue (value.Refused n) = refused n
 
-abbrev pub lapHeld : ℕ → ℕ → EcDec → ValueStep
+-- with the numbers after it
+abbrev pub saidValueStep : ValueStep → Stepped ℤ
+saidValueStep r = stepped (saidValue (r .answer)) (r .next)
+
+abbrev pub lapOf : Reader → Said LapSym → Stepped ℤ
+lapOf d a = apart (λ (y : LapSym). y .value) (λ (y : LapSym). y .next) d a
+
+abbrev pub lapHeld : ℕ → ℕ → EcDec → Stepped ℤ
 lapHeld fs decay r = lapOf (r .num) (reading fs decay (now (r .buf)) (r .num))
 
 -- ---- an allocation
 
--- an answer with the numbers after it, and the lent lists after the call
-pub record AllocAfter : Type 0 where
-  pub step : AllocStep
-  pub lent : Lists
+-- what an answer says
+abbrev pub saidAllocated : Allocated → Said Allocation
+saidAllocated (allocated.Got y) = done y
+saidAllocated (allocated.Refused n) = refused n
 
-abbrev pub allocAfter : AllocStep → Lists → AllocAfter
-allocAfter r l = record { step = r; lent = l }
+-- with the numbers after it
+abbrev pub saidAllocStep : AllocStep → Stepped Allocation
+saidAllocStep r = stepped (saidAllocated (r .answer)) (r .next)
 
-abbrev pub allocStep : Reader → AllocRead → AllocStep
-allocStep d (alloc.Got y) =
-    record {
-      answer = allocated.Got (record { coded = y .coded; balance = y .balance; intensity = y .intensity; dual = y .dual });
-      next = y .next;
-    }
-allocStep d (alloc.Refused n) = record { answer = allocated.Refused n; next = d }
+-- and the lent lists after the call
+abbrev pub allocAfter : AllocStep → Lists → After Allocation Lists
+allocAfter r l = record { step = saidAllocStep r; lent = l }
 
-abbrev pub allocOf : Reader → AllocAnswer → AllocAfter
-allocOf d y = allocAfter (allocStep d (y .said)) (y .lent)
+-- an allocation without the reader after it
+abbrev pub sharesOf : ReadAllocation → Allocation
+sharesOf y = record { coded = y .coded; balance = y .balance; intensity = y .intensity; dual = y .dual }
 
-abbrev pub allocHeld : Numbers → List ℤ → List ℤ → Lists → EcDec → AllocAfter
+abbrev pub allocOf : Reader → AllocAnswer → After Allocation Lists
+allocOf d y = both (apart sharesOf (λ (x : ReadAllocation). x .next) d (y .said)) (y .lent)
+
+abbrev pub allocHeld : Numbers → List ℤ → List ℤ → Lists → EcDec → After Allocation Lists
 allocHeld q offsets caps l r = allocOf (r .num) (allocating q offsets caps (now (r .buf)) (r .num) l)
 
 -- ---- coarse energies
 
--- an answer with the numbers after it, and the lent energies after the call
-pub record CoarseAfter : Type 0 where
-  pub step : EnergiesStep
-  pub lent : List Float
+-- what an answer says: the energies are in the lent list, so that there is no value
+abbrev pub saidEnergies : Energies → Said Unit
+saidEnergies energies.Done = done tt
+saidEnergies (energies.Refused n) = refused n
 
-abbrev pub coarseAfter : EnergiesStep → List Float → CoarseAfter
-coarseAfter r es = record { step = r; lent = es }
+-- with the numbers after it
+abbrev pub saidEnergiesStep : EnergiesStep → Stepped Unit
+saidEnergiesStep r = stepped (saidEnergies (r .answer)) (r .next)
 
-abbrev pub coarseStep : Reader → EnergyRead → EnergiesStep
-coarseStep d (energy.Got next) = record { answer = energies.Done; next = next }
-coarseStep d (energy.Refused n) = record { answer = energies.Refused n; next = d }
+-- and the lent energies after the call
+abbrev pub coarseAfter : EnergiesStep → List Float → After Unit (List Float)
+coarseAfter r es = record { step = saidEnergiesStep r; lent = es }
 
-abbrev pub coarseOf : Reader → EnergyAnswer → CoarseAfter
-coarseOf d y = coarseAfter (coarseStep d (y .said)) (y .energies)
+abbrev pub coarseOf : Reader → EnergyAnswer → After Unit (List Float)
+coarseOf d y = both (apart (λ (x : Reader). tt) (λ (x : Reader). x) d (y .said)) (y .energies)
 
-abbrev pub coarseHeld : ℤ → ℤ → ℤ → ℤ → ℤ → List Float → EcDec → CoarseAfter
+abbrev pub coarseHeld : ℤ → ℤ → ℤ → ℤ → ℤ → List Float → EcDec → After Unit (List Float)
 coarseHeld c lm start end intra es r = coarseOf (r .num) (coarseReading c lm start end intra (now (r .buf)) (r .num) es)

@@ -4,7 +4,18 @@
 ghost use mathlib.Core.Path.{_≡_};
 ghost use Rattle.entcode.specs.Sym.Shape.{bit, table, uint, raw};
 ghost use Rattle.rate.specs.Question.{lists, numbers};
-ghost use Rattle.held.specs.Held.{moved, openedOf, readHeld, lapHeld, allocHeld, coarseHeld};
+ghost use Rattle.held.specs.Held.{
+  moved,
+  openedOf,
+  saidSymbol,
+  readHeld,
+  saidValue,
+  lapHeld,
+  saidAllocated,
+  allocHeld,
+  saidEnergies,
+  coarseHeld,
+};
 use entdec::Reader;
 
 pub mod moves;
@@ -100,7 +111,7 @@ pub fn ec_dec_init<'a>(buf: &'a [u8]) -> Opened<'a>
 // One bit that is 1 with a probability of 1 in 2^logp, section 4.1.3.2.
 pub fn ec_dec_bit_logp<'s, 'a>(d: &'s mut EcDec<'a>, logp: u32) -> Symbol
     ensures { λ r.
-        ⌜ (r ≡ readHeld (bit logp) (now (d .entry)) .answer)
+        ⌜ (saidSymbol r ≡ readHeld (bit logp) (now (d .entry)) .said)
         × (now (d .exit) ≡ moved (now (d .entry)) (readHeld (bit logp) (now (d .entry)) .next)) ⌝ }
 {
     let out = moves::bit_logp(d.num, d.buf, logp);
@@ -111,7 +122,7 @@ pub fn ec_dec_bit_logp<'s, 'a>(d: &'s mut EcDec<'a>, logp: u32) -> Symbol
 // A number below ft, all alike, section 4.1.5.
 pub fn ec_dec_uint<'s, 'a>(d: &'s mut EcDec<'a>, ft: u32) -> Symbol
     ensures { λ r.
-        ⌜ (r ≡ readHeld (uint ft) (now (d .entry)) .answer)
+        ⌜ (saidSymbol r ≡ readHeld (uint ft) (now (d .entry)) .said)
         × (now (d .exit) ≡ moved (now (d .entry)) (readHeld (uint ft) (now (d .entry)) .next)) ⌝ }
 {
     let out = moves::uint(d.num, d.buf, ft);
@@ -122,7 +133,7 @@ pub fn ec_dec_uint<'s, 'a>(d: &'s mut EcDec<'a>, ft: u32) -> Symbol
 // A symbol of a table of 2^ftb places, section 4.1.3.3.
 pub fn ec_dec_icdf<'s, 'a, 't>(d: &'s mut EcDec<'a>, t: &'t [u8], ftb: u32) -> Symbol
     ensures { λ r.
-        ⌜ (r ≡ readHeld (table (now (t .entry)) ftb) (now (d .entry)) .answer)
+        ⌜ (saidSymbol r ≡ readHeld (table (now (t .entry)) ftb) (now (d .entry)) .said)
         × (now (d .exit) ≡ moved (now (d .entry)) (readHeld (table (now (t .entry)) ftb) (now (d .entry)) .next)) ⌝ }
 {
     let out = moves::icdf(d.num, d.buf, t, ftb);
@@ -133,7 +144,7 @@ pub fn ec_dec_icdf<'s, 'a, 't>(d: &'s mut EcDec<'a>, t: &'t [u8], ftb: u32) -> S
 // n raw bits from the end of the packet, section 4.1.4.
 pub fn ec_dec_bits<'s, 'a>(d: &'s mut EcDec<'a>, n: u32) -> Symbol
     ensures { λ r.
-        ⌜ (r ≡ readHeld (raw n) (now (d .entry)) .answer)
+        ⌜ (saidSymbol r ≡ readHeld (raw n) (now (d .entry)) .said)
         × (now (d .exit) ≡ moved (now (d .entry)) (readHeld (raw n) (now (d .entry)) .next)) ⌝ }
 {
     let out = moves::bits(d.num, d.buf, n);
@@ -144,7 +155,7 @@ pub fn ec_dec_bits<'s, 'a>(d: &'s mut EcDec<'a>, n: u32) -> Symbol
 // A Laplace value of the pair fs and decay, section 4.3.2.1.
 pub fn ec_laplace_decode<'s, 'a>(d: &'s mut EcDec<'a>, fs: u32, decay: u32) -> Value
     ensures { λ r.
-        ⌜ (r ≡ lapHeld fs decay (now (d .entry)) .answer)
+        ⌜ (saidValue r ≡ lapHeld fs decay (now (d .entry)) .said)
         × (now (d .exit) ≡ moved (now (d .entry)) (lapHeld fs decay (now (d .entry)) .next)) ⌝ }
 {
     let out = moves::laplace(d.num, d.buf, fs, decay);
@@ -168,7 +179,7 @@ pub fn clt_compute_allocation<'s, 'a, 'o, 'c, 'p, 'f, 'r>(
     priorities: &'r mut [i32],
 ) -> Allocated
     ensures { λ r.
-        ⌜ (r ≡ allocHeld (numbers c lm start end trim total) (now (offsets .entry)) (now (caps .entry)) (lists (now (pulses .entry)) (now (fine .entry)) (now (priorities .entry))) (now (d .entry)) .step .answer)
+        ⌜ (saidAllocated r ≡ allocHeld (numbers c lm start end trim total) (now (offsets .entry)) (now (caps .entry)) (lists (now (pulses .entry)) (now (fine .entry)) (now (priorities .entry))) (now (d .entry)) .step .said)
         × (now (d .exit) ≡ moved (now (d .entry)) (allocHeld (numbers c lm start end trim total) (now (offsets .entry)) (now (caps .entry)) (lists (now (pulses .entry)) (now (fine .entry)) (now (priorities .entry))) (now (d .entry)) .step .next))
         × (lists (now (pulses .exit)) (now (fine .exit)) (now (priorities .exit)) ≡ allocHeld (numbers c lm start end trim total) (now (offsets .entry)) (now (caps .entry)) (lists (now (pulses .entry)) (now (fine .entry)) (now (priorities .entry))) (now (d .entry)) .lent) ⌝ }
 {
@@ -202,7 +213,7 @@ pub fn unquant_coarse_energy<'s, 'a, 'e>(
     intra: i32,
 ) -> Energies
     ensures { λ r.
-        ⌜ (r ≡ coarseHeld c lm start end intra (now (energies .entry)) (now (d .entry)) .step .answer)
+        ⌜ (saidEnergies r ≡ coarseHeld c lm start end intra (now (energies .entry)) (now (d .entry)) .step .said)
         × (now (d .exit) ≡ moved (now (d .entry)) (coarseHeld c lm start end intra (now (energies .entry)) (now (d .entry)) .step .next))
         × (now (energies .exit) ≡ coarseHeld c lm start end intra (now (energies .entry)) (now (d .entry)) .lent) ⌝ }
 {

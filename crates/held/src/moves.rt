@@ -1,12 +1,24 @@
 // The calls that take a state by value, with no branch left for their caller: an answer, and the numbers after it.
 ghost use mathlib.Core.Path.{_≡_};
 ghost use Rattle.entcode.specs.Sym.Shape.{bit, table, uint, raw};
-ghost use Rattle.entdec.specs.Answer.{startOf};
+ghost use Rattle.entdec.specs.Answer.{said, startOf};
 ghost use Rattle.laplace.specs.Answer.{reading};
 ghost use Rattle.quant_bands.specs.Answer.{coarseReading};
 ghost use Rattle.rate.specs.Answer.{reading as allocating};
 ghost use Rattle.rate.specs.Question.{lists, numbers};
-ghost use Rattle.held.specs.Held.{begunOf, noReader, stepOf, lapOf, readStep, allocAfter, allocOf, coarseAfter, coarseOf};
+ghost use Rattle.held.specs.Held.{
+  begunOf,
+  noReader,
+  saidStep,
+  stepOf,
+  saidValueStep,
+  lapOf,
+  readStep,
+  allocAfter,
+  allocOf,
+  coarseAfter,
+  coarseOf,
+};
 use crate::AllocStep;
 use crate::Allocated;
 use crate::Allocation;
@@ -55,7 +67,7 @@ pub fn begin(s: &[u8]) -> Begun
 
 // What was answered to d, apart.
 fn apart(d: Reader, a: Answer) -> Step
-    ensures { λ r. ⌜ r ≡ stepOf d a ⌝ }
+    ensures { λ r. ⌜ saidStep r ≡ stepOf d (said a) ⌝ }
 {
     match a {
         Answer::Got(y) => {
@@ -74,35 +86,35 @@ fn apart(d: Reader, a: Answer) -> Step
 
 // One bit.
 pub fn bit_logp(d: Reader, s: &[u8], logp: u32) -> Step
-    ensures { λ r. ⌜ r ≡ readStep (bit logp) (now (s .entry)) d ⌝ }
+    ensures { λ r. ⌜ saidStep r ≡ readStep (bit logp) (now (s .entry)) d ⌝ }
 {
     apart(d, d.bit_logp(s, logp))
 }
 
 // A number below ft.
 pub fn uint(d: Reader, s: &[u8], ft: u32) -> Step
-    ensures { λ r. ⌜ r ≡ readStep (uint ft) (now (s .entry)) d ⌝ }
+    ensures { λ r. ⌜ saidStep r ≡ readStep (uint ft) (now (s .entry)) d ⌝ }
 {
     apart(d, d.uint(s, ft))
 }
 
 // A symbol of a table.
 pub fn icdf(d: Reader, s: &[u8], t: &[u8], ftb: u32) -> Step
-    ensures { λ r. ⌜ r ≡ readStep (table (now (t .entry)) ftb) (now (s .entry)) d ⌝ }
+    ensures { λ r. ⌜ saidStep r ≡ readStep (table (now (t .entry)) ftb) (now (s .entry)) d ⌝ }
 {
     apart(d, d.icdf(s, t, ftb))
 }
 
 // n raw bits.
 pub fn bits(d: Reader, s: &[u8], n: u32) -> Step
-    ensures { λ r. ⌜ r ≡ readStep (raw n) (now (s .entry)) d ⌝ }
+    ensures { λ r. ⌜ saidStep r ≡ readStep (raw n) (now (s .entry)) d ⌝ }
 {
     apart(d, d.bits(s, n))
 }
 
 // A Laplace value.
 pub fn laplace(d: Reader, s: &[u8], fs: u32, decay: u32) -> ValueStep
-    ensures { λ r. ⌜ r ≡ lapOf d (reading fs decay (now (s .entry)) d) ⌝ }
+    ensures { λ r. ⌜ saidValueStep r ≡ lapOf d (reading fs decay (now (s .entry)) d) ⌝ }
 {
     match laplace::ec_laplace_decode(d, s, fs, decay) {
         LapRead::Got(y) => {

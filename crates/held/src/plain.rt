@@ -7,7 +7,7 @@ ghost use Rattle.laplace.specs.Answer.{reading};
 ghost use Rattle.quant_bands.specs.Answer.{coarseReading};
 ghost use Rattle.rate.specs.Answer.{reading as allocating};
 ghost use Rattle.rate.specs.Question.{lists, numbers};
-ghost use Rattle.held.specs.Held.{begunOf, lapOf, readStep, allocAfter, allocOf, coarseAfter, coarseOf};
+ghost use Rattle.held.specs.Held.{begunOf, saidValueStep, lapOf, saidStep, readStep, allocAfter, allocOf, coarseAfter, coarseOf};
 use crate::AllocStep;
 use crate::Begun;
 use crate::EcDec;
@@ -29,7 +29,7 @@ pub fn begin(buf: &[u8]) -> Begun
 
 // One bit.
 pub fn bit_logp(num: Reader, buf: &[u8], logp: u32) -> Step
-    ensures { λ r. ⌜ r ≡ readStep (bit logp) (now (buf .entry)) num ⌝ }
+    ensures { λ r. ⌜ saidStep r ≡ readStep (bit logp) (now (buf .entry)) num ⌝ }
 {
     let mut d = EcDec { buf, num };
     let answer = crate::ec_dec_bit_logp(&mut d, logp);
@@ -41,7 +41,7 @@ pub fn bit_logp(num: Reader, buf: &[u8], logp: u32) -> Step
 
 // A number below ft.
 pub fn uint(num: Reader, buf: &[u8], ft: u32) -> Step
-    ensures { λ r. ⌜ r ≡ readStep (uint ft) (now (buf .entry)) num ⌝ }
+    ensures { λ r. ⌜ saidStep r ≡ readStep (uint ft) (now (buf .entry)) num ⌝ }
 {
     let mut d = EcDec { buf, num };
     let answer = crate::ec_dec_uint(&mut d, ft);
@@ -53,7 +53,7 @@ pub fn uint(num: Reader, buf: &[u8], ft: u32) -> Step
 
 // A symbol of a table.
 pub fn icdf(num: Reader, buf: &[u8], t: &[u8], ftb: u32) -> Step
-    ensures { λ r. ⌜ r ≡ readStep (table (now (t .entry)) ftb) (now (buf .entry)) num ⌝ }
+    ensures { λ r. ⌜ saidStep r ≡ readStep (table (now (t .entry)) ftb) (now (buf .entry)) num ⌝ }
 {
     let mut d = EcDec { buf, num };
     let answer = crate::ec_dec_icdf(&mut d, t, ftb);
@@ -65,7 +65,7 @@ pub fn icdf(num: Reader, buf: &[u8], t: &[u8], ftb: u32) -> Step
 
 // n raw bits.
 pub fn bits(num: Reader, buf: &[u8], n: u32) -> Step
-    ensures { λ r. ⌜ r ≡ readStep (raw n) (now (buf .entry)) num ⌝ }
+    ensures { λ r. ⌜ saidStep r ≡ readStep (raw n) (now (buf .entry)) num ⌝ }
 {
     let mut d = EcDec { buf, num };
     let answer = crate::ec_dec_bits(&mut d, n);
@@ -77,7 +77,7 @@ pub fn bits(num: Reader, buf: &[u8], n: u32) -> Step
 
 // A Laplace value.
 pub fn laplace(num: Reader, buf: &[u8], fs: u32, decay: u32) -> ValueStep
-    ensures { λ r. ⌜ r ≡ lapOf num (reading fs decay (now (buf .entry)) num) ⌝ }
+    ensures { λ r. ⌜ saidValueStep r ≡ lapOf num (reading fs decay (now (buf .entry)) num) ⌝ }
 {
     let mut d = EcDec { buf, num };
     let answer = crate::ec_laplace_decode(&mut d, fs, decay);

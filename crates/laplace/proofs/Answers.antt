@@ -9,6 +9,7 @@ use lib.IntN.{ℤ}
 use lib.ListN.{length}
 use Rattle.modes.specs.Laplace.{legal}
 use Rattle.modes.proofs.Laplace.{Legal}
+use Rattle.entcode.specs.Said.{answer, lentAfter}
 use Rattle.entcode.specs.Sym.{partsOf, adjust, lengthOk, shapeOk, listOk, valueOk}
 use Rattle.entdec.specs.declared.Reader.{Reader}
 use Rattle.entdec.specs.Read.{place, update}
@@ -32,7 +33,7 @@ use Rattle.laplace.specs.Chain.{locate}
 use Rattle.laplace.specs.Signed.{inDomain, valueIn, spanZ, adjusted}
 use Rattle.laplace.specs.Pairs.{pairKnown}
 use Rattle.laplace.specs.Model.{codeOf, valueAt, lapModel}
-use Rattle.laplace.specs.Answer.{lap, readLap, answerR, reading, numberR, writtenAs, writeLap, After, after, answerW, writing, numberW}
+use Rattle.laplace.specs.Answer.{lap, readLap, saidRead, writtenAs, writeLap, after, answerW, writing}
 use Rattle.laplace.proofs.Known.{known-legal}
 use Rattle.laplace.proofs.Values.{value-code, domain-code}
 use Rattle.laplace.proofs.Lawful.{place-span, adjust-places}
@@ -58,13 +59,13 @@ read-needs fs dec s d n e z =
     let o = opened-for (lap fs dec) s d (sym e ∙ z) in
     (sound-ready 1 d (o .state) (omega arith), known-legal fs dec (o .known))
 
-pub said-got : (n k : ℕ) (y y′ : LapSym) → n ≡ k → n ≡ 0 → y ≡ y′ → got.Got y ≡ answerR k y′
-unfolding answerR
+pub said-got : (n k : ℕ) (y y′ : LapSym) → n ≡ k → n ≡ 0 → y ≡ y′ → saidRead (got.Got y) ≡ answer k y′
+unfolding answer
 said-got n zero y y′ e z h = rw h
 said-got n (suc k) y y′ e z h = absurd (suc-ne-zero k (sym e ∙ z))
 
-pub said-refused : (n k : ℕ) (y : LapSym) → n ≡ k → (n ≡ 0 → ⊥) → got.Refused n ≡ answerR k y
-unfolding answerR
+pub said-refused : (n k : ℕ) (y : LapSym) → n ≡ k → (n ≡ 0 → ⊥) → saidRead (got.Refused n) ≡ answer k y
+unfolding answer
 said-refused n zero y e z = absurd (z e)
 said-refused n (suc k) y e z = rw e
 
@@ -101,7 +102,7 @@ module _ (fs dec : ℕ) (z : ℤ) where
 
 next-w : (n k : ℕ) (v : ℤ) (y : LapDone) (w w′ : Wr) (l : List ℕ) → n ≡ k → n ≡ 0 → y .value ≡ v → wr (y .next) l ≡ w′
     → after (wrote.Next y) l ≡ answerW k v w w′
-unfolding answerW
+unfolding answer lentAfter
 next-w n zero v y w w′ l e z p q = rw (sym p, sym q)
 next-w n (suc k) v y w w′ l e z p q = absurd (suc-ne-zero k (sym e ∙ z))
 
@@ -112,32 +113,6 @@ said-next fs dec z z′ w n y l t e h p q =
     next-w n _ _ y w _ l e h (p ∙ ap (λ (x : ℤ). writtenAs fs dec x) t) (q ∙ ap (λ (x : ℤ). writeLap fs dec x w) t)
 
 pub said-no : (n k : ℕ) (v : ℤ) (w w′ : Wr) → n ≡ k → (n ≡ 0 → ⊥) → after (wrote.Refused n) (w .bytes) ≡ answerW k v w w′
-unfolding answerW
+unfolding answer lentAfter
 said-no n zero v w w′ e z = absurd (z e)
 said-no n (suc k) v w w′ e z = rw e
-
--- ---- an answer's number is the gate's, and a refused write leaves the bytes
-
-number-r : (n : ℕ) (y : LapSym) → numberR (answerR n y) ≡ n
-unfolding answerR
-number-r zero y = refl
-number-r (suc n) y = refl
-
-number-w : (n : ℕ) (v : ℤ) (w w′ : Wr) → numberW (answerW n v w w′ .said) ≡ n
-unfolding answerW
-number-w zero v w w′ = refl
-number-w (suc n) v w w′ = refl
-
-kept : (n : ℕ) (v : ℤ) (w w′ : Wr) → (n ≡ 0 → ⊥) → answerW n v w w′ .bytes ≡ w .bytes
-unfolding answerW
-kept zero v w w′ h = absurd (h refl)
-kept (suc n) v w w′ h = refl
-
-pub number-reading : (fs dec : ℕ) (s : List ℕ) (d : Reader) → numberR (reading fs dec s d) ≡ refusalR (lap fs dec) s d
-number-reading fs dec s d = number-r (refusalR (lap fs dec) s d) (readLap fs dec s d)
-
-pub number-writing : (fs dec : ℕ) (z : ℤ) (w : Wr) → numberW (writing fs dec z w .said) ≡ refusalW (lap fs dec) (codeOf z) w
-number-writing fs dec z w = number-w (refusalW (lap fs dec) (codeOf z) w) (writtenAs fs dec z) w (writeLap fs dec z w)
-
-pub bytes-refused : (fs dec : ℕ) (z : ℤ) (w : Wr) → (refusalW (lap fs dec) (codeOf z) w ≡ 0 → ⊥) → writing fs dec z w .bytes ≡ w .bytes
-bytes-refused fs dec z w h = kept (refusalW (lap fs dec) (codeOf z) w) (writtenAs fs dec z) w (writeLap fs dec z w) h

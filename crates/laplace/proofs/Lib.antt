@@ -5,4 +5,5 @@ pub mod Known
 pub mod Looked
 pub mod Lawful
 pub mod Answers
+pub mod Said
 pub mod Follow

@@ -1,7 +1,9 @@
--- What the two calls answer, by document 01's number of the refusal and the values, and what the lent bytes then hold.
-use Prim.Native.Nat.{ℕ, zero, suc}
+-- What the two calls say, by document 01's number of the refusal and the values, and what the lent bytes then hold.
+use Prim.Native.Nat.{ℕ}
 use mathlib.Core.List.{List}
 use lib.IntN.{ℤ}
+use Rattle.entcode.specs.Said.{Said, answer, lentAfter}
+use Rattle.entcode.specs.Said.Said.{done, refused}
 use Rattle.entcode.specs.Sym.{Shape, adjust}
 use Rattle.entcode.specs.Sym.Shape.{one}
 use Rattle.entdec.specs.declared.Reader.{Reader}
@@ -28,19 +30,14 @@ lap fs dec = one (lapModel fs dec)
 abbrev pub readLap : ℕ → ℕ → List ℕ → Reader → LapSym
 readLap fs dec s d = record { value = valueAt (readSym (lap fs dec) s d .value); next = readSym (lap fs dec) s d .next }
 
--- number 0: what was read; any other: that refusal
-unfoldable pub answerR : ℕ → LapSym → LapRead
-answerR zero y = got.Got y
-answerR (suc n) y = got.Refused (suc n)
+-- what an answer of a read says
+abbrev pub saidRead : LapRead → Said LapSym
+saidRead (got.Got y) = done y
+saidRead (got.Refused n) = refused n
 
 -- a checked read
-abbrev pub reading : ℕ → ℕ → List ℕ → Reader → LapRead
-reading fs dec s d = answerR (refusalR (lap fs dec) s d) (readLap fs dec s d)
-
--- document 01's number of an answer, 0 where it is no refusal
-abbrev pub numberR : LapRead → ℕ
-numberR (got.Got y) = 0
-numberR (got.Refused n) = n
+abbrev pub reading : ℕ → ℕ → List ℕ → Reader → Said LapSym
+reading fs dec s d = answer (refusalR (lap fs dec) s d) (readLap fs dec s d)
 
 -- ---- writing
 
@@ -52,24 +49,23 @@ writtenAs fs dec z = valueAt (adjust (lap fs dec) (codeOf z))
 abbrev pub writeLap : ℕ → ℕ → ℤ → Wr → Wr
 writeLap fs dec z w = writeSym (lap fs dec) (codeOf z) w
 
--- an answer, and the lent bytes after the call
+-- what an answer of a write says
+abbrev pub saidWrote : LapWrote → Said LapDone
+saidWrote (wrote.Next y) = done y
+saidWrote (wrote.Refused n) = refused n
+
+-- what is said, and the lent bytes after the call
 pub record After : Type 0 where
-  pub said : LapWrote
+  pub said : Said LapDone
   pub bytes : List ℕ
 
 abbrev pub after : LapWrote → List ℕ → After
-after r l = record { said = r; bytes = l }
+after r l = record { said = saidWrote r; bytes = l }
 
 -- number 0: what counts as written and the writer after it, with its bytes; any other: that refusal, and the bytes as they were
-unfoldable pub answerW : ℕ → ℤ → Wr → Wr → After
-answerW zero v w w′ = after (wrote.Next (record { value = v; next = w′ .st })) (w′ .bytes)
-answerW (suc n) v w w′ = after (wrote.Refused (suc n)) (w .bytes)
+abbrev pub answerW : ℕ → ℤ → Wr → Wr → After
+answerW n v w w′ = record { said = answer n (record { value = v; next = w′ .st }); bytes = lentAfter n (w′ .bytes) (w .bytes) }
 
 -- a checked write
 abbrev pub writing : ℕ → ℕ → ℤ → Wr → After
 writing fs dec z w = answerW (refusalW (lap fs dec) (codeOf z) w) (writtenAs fs dec z) w (writeLap fs dec z w)
-
--- document 01's number of an answer, 0 where it is no refusal
-abbrev pub numberW : LapWrote → ℕ
-numberW (wrote.Next y) = 0
-numberW (wrote.Refused n) = n

@@ -1,7 +1,7 @@
 // Laplace values read and written: RFC 6716, section 4.3.2.1.
 ghost use mathlib.Core.Path.{_≡_};
 ghost use Rattle.entenc.specs.Write.{Wr, wr};
-ghost use Rattle.laplace.specs.Answer.{reading, After, after, writing};
+ghost use Rattle.laplace.specs.Answer.{saidRead, reading, After, after, writing};
 use entdec::Reader;
 use entenc::Writer;
 
@@ -35,7 +35,7 @@ pub enum LapWrote {
 
 // A Laplace value of the pair fs and decay. Refused as 2, 1 (the state, the pair) and 4.
 pub fn ec_laplace_decode(d: Reader, s: &[u8], fs: u32, decay: u32) -> LapRead
-    ensures { λ r. ⌜ r ≡ reading fs decay (now (s .entry)) d ⌝ }
+    ensures { λ r. ⌜ saidRead r ≡ reading fs decay (now (s .entry)) d ⌝ }
 {
     let known = pairs::pair_known(fs, decay);
     let no = d.refusal(s.len(), true, known, true, 0);

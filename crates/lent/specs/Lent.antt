@@ -1,21 +1,29 @@
--- What a frame on a lent record answers, and what the record is then: those of the call by value.
-use Prim.Native.Nat.{ℕ, zero, suc}
+-- What a frame on a lent record says, and what the record is then: those of the call by value.
+use Rattle.entcode.specs.Said.{Said, answer}
+use Rattle.entcode.specs.Said.Said.{done, refused}
 use Rattle.entdec.specs.declared.Reader.{Reader}
 use Rattle.stream.specs.declared.Framed.{Framed}
+use Rattle.stream.specs.declared.Record.{Record}
 use Rattle.lent.specs.declared.Applied.{Applied}
 use Rattle.lent.specs.declared.Applied.the-variants.{Got, Refused}
 use Rattle.lent.specs.declared.AppliedStep.{AppliedStep}
 
--- code 0: the reader after the frame; any other: that refusal
-abbrev pub answerOf : ℕ → Reader → Applied
-answerOf zero d = Got d
-answerOf (suc n) d = Refused (suc n)
+-- what an answer says
+abbrev pub said : Applied → Said Reader
+said (Got d) = done d
+said (Refused n) = refused n
 
--- document 01's number of an answer, 0 where it is no refusal
-abbrev pub numberOf : Applied → ℕ
-numberOf (Got d) = 0
-numberOf (Refused n) = n
+-- what is said, and the record after it
+pub record Stepped : Type 0 where
+  pub said : Said Reader
+  pub rec : Record
 
--- the answer, and the record after it
-abbrev pub stepOf : Framed → AppliedStep
-stepOf y = record { answer = answerOf (y .code) (y .next); rec = y .rec }
+abbrev pub stepped : Said Reader → Record → Stepped
+stepped a r = record { said = a; rec = r }
+
+abbrev pub saidStep : AppliedStep → Stepped
+saidStep r = stepped (said (r .answer)) (r .rec)
+
+-- code 0: the reader after the frame; any other: that refusal. And the record after it
+abbrev pub stepOf : Framed → Stepped
+stepOf y = stepped (answer (y .code) (y .next)) (y .rec)

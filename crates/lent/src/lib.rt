@@ -4,7 +4,8 @@
 ghost use mathlib.Core.Path.{_≡_};
 ghost use Prim.Native.Nat.{ℕ};
 ghost use Rattle.stream.specs.Frame.{call, framed};
-ghost use Rattle.lent.specs.Lent.{stepOf};
+ghost use Rattle.entcode.specs.Said.Said.{refused};
+ghost use Rattle.lent.specs.Lent.{said, stepOf};
 use entdec::Reader;
 use stream::Record;
 
@@ -36,9 +37,9 @@ pub fn frame(
     intra: i32,
 ) -> Applied
     ensures { λ r.
-        ⌜ (r ≡ stepOf (framed (now (rec .entry)) (call d (now (s .entry)) number c lm start end intra)) .answer)
+        ⌜ (said r ≡ stepOf (framed (now (rec .entry)) (call d (now (s .entry)) number c lm start end intra)) .said)
         × (now (rec .exit) ≡ stepOf (framed (now (rec .entry)) (call d (now (s .entry)) number c lm start end intra)) .rec)
-        × ((n : ℕ) → r ≡ Applied.Refused n → now (rec .exit) ≡ now (rec .entry)) ⌝ }
+        × ((n : ℕ) → said r ≡ refused n → now (rec .exit) ≡ now (rec .entry)) ⌝ }
 {
     let out = moves::frame(*rec, d, s, number, c, lm, start, end, intra);
     *rec = out.rec;

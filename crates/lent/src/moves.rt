@@ -1,7 +1,7 @@
 // The frame call that takes the record by value, with no branch left for its caller.
 ghost use mathlib.Core.Path.{_≡_};
 ghost use Rattle.stream.specs.Frame.{call, framed};
-ghost use Rattle.lent.specs.Lent.{stepOf};
+ghost use Rattle.lent.specs.Lent.{saidStep, stepOf};
 use crate::Applied;
 use crate::AppliedStep;
 use entdec::Reader;
@@ -19,7 +19,7 @@ pub fn frame(
     end: i32,
     intra: i32,
 ) -> AppliedStep
-    ensures { λ r. ⌜ r ≡ stepOf (framed rec (call d (now (s .entry)) number c lm start end intra)) ⌝ }
+    ensures { λ r. ⌜ saidStep r ≡ stepOf (framed rec (call d (now (s .entry)) number c lm start end intra)) ⌝ }
 {
     let y = rec.frame(d, s, number, c, lm, start, end, intra);
     let after = y.rec;

@@ -1,7 +1,7 @@
 // For callers that lend nothing: the record is put into a local, lent, and handed back. A caller of this needs no walk.
 ghost use mathlib.Core.Path.{_≡_};
 ghost use Rattle.stream.specs.Frame.{call, framed};
-ghost use Rattle.lent.specs.Lent.{stepOf};
+ghost use Rattle.lent.specs.Lent.{saidStep, stepOf};
 use crate::AppliedStep;
 use entdec::Reader;
 use stream::Record;
@@ -18,7 +18,7 @@ pub fn frame(
     end: i32,
     intra: i32,
 ) -> AppliedStep
-    ensures { λ r. ⌜ r ≡ stepOf (framed rec (call d (now (s .entry)) number c lm start end intra)) ⌝ }
+    ensures { λ r. ⌜ saidStep r ≡ stepOf (framed rec (call d (now (s .entry)) number c lm start end intra)) ⌝ }
 {
     let mut r = rec;
     let answer = crate::frame(&mut r, d, s, number, c, lm, start, end, intra);

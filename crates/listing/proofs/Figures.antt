@@ -17,6 +17,7 @@ use Rattle.text.specs.Written.{figuresOf}
 use Rattle.entcode.specs.Counts.{countsOk}
 use Rattle.entcode.specs.Range.{turns, off, wid}
 use Rattle.entcode.specs.Refusal.{refusal}
+use Rattle.entcode.specs.Said.{answer, lentAfter}
 use Rattle.entcode.specs.Sym.{findSym}
 use Rattle.entdec.specs.Read.{pull, pulls, place, update, byteBack, fetch, fetches, readBits, freshReader}
 use Rattle.entdec.specs.Symbols.{readSym}
@@ -39,5 +40,5 @@ use Rattle.listing.specs.Answer.{allocated, answerOf, listingOf}
 pub example
     : listingOf 1 (49 ∷ 9 ∷ 48 ∷ 9 ∷ 48 ∷ 9 ∷ 49 ∷ 9 ∷ 53 ∷ 9 ∷ 54 ∷ 52 ∷ 9 ∷ 48 ∷ 48 ∷ [])
     ≡ 82 ∷ 9 ∷ 49 ∷ 9 ∷ 49 ∷ 9 ∷ 48 ∷ 9 ∷ 48 ∷ 9 ∷ 48 ∷ 10 ∷ 66 ∷ 9 ∷ 48 ∷ 9 ∷ 56 ∷ 9 ∷ 55 ∷ 9 ∷ 49 ∷ 10 ∷ []
-unfolding leadingZeros every fill sumOf edges edge width vectors step fractions fraction logWidths logWidth caps capEntry glue partsOf tabbed digitOf allDigits valueAfter glyphOf lastDigits noNeedlessZero bytesOf hexBytes figuresOf countsOk turns off wid refusal pull pulls place update byteBack fetch fetches readBits freshReader readSym findSym readerOk readRefusal capOf skipReserve stereoFits intensityReserve dualReserve budget threshold slope trimUp trimDown trimmed vectorBits lowBits highBits interpolated halve reached floored takes over vector sixtyfourths keeps bitsOf lastBoost skipStart widthUpTo reserveNext topBits asks paid keep dropped flagOf skip withOffset wanted extra spill fineOf prioOf splitOf skipped degrees spread splitBand carried bandOf firstRound dualAsked leftOf finish askIntensity askDual allocFrom alloc frameOf numbersOk refusalRead answerRead asksOf numbersOf framed requestOf zeros capsOf lineOf headLine bandLine bandLines refusedLine allocated answerOf listingOf
+unfolding leadingZeros every fill sumOf edges edge width vectors step fractions fraction logWidths logWidth caps capEntry glue partsOf tabbed digitOf allDigits valueAfter glyphOf lastDigits noNeedlessZero bytesOf hexBytes figuresOf countsOk turns off wid refusal pull pulls place update byteBack fetch fetches readBits freshReader readSym findSym readerOk readRefusal capOf skipReserve stereoFits intensityReserve dualReserve budget threshold slope trimUp trimDown trimmed vectorBits lowBits highBits interpolated halve reached floored takes over vector sixtyfourths keeps bitsOf lastBoost skipStart widthUpTo reserveNext topBits asks paid keep dropped flagOf skip withOffset wanted extra spill fineOf prioOf splitOf skipped degrees spread splitBand carried bandOf firstRound dualAsked leftOf finish askIntensity askDual allocFrom alloc frameOf numbersOk refusalRead answerRead answer lentAfter asksOf numbersOf framed requestOf zeros capsOf lineOf headLine bandLine bandLines refusedLine allocated answerOf listingOf
 example = refl

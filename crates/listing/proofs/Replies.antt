@@ -17,13 +17,15 @@ use Rattle.text.specs.Digits.{allDigits}
 use Rattle.text.specs.Numbers.{bytesOf, hexBytes}
 use Rattle.text.specs.Written.{Put}
 use Rattle.entcode.specs.Refusal.{refusal}
+use Rattle.entcode.specs.Said.{Said, answer, lentAfter}
+use Rattle.entcode.specs.Said.Said.{done, refused}
 use Rattle.entdec.specs.declared.Reader.{Reader}
 use Rattle.entdec.specs.declared.Started.{Started}
 use Rattle.entdec.specs.Read.{pull, pulls, freshReader}
 use Rattle.entdec.specs.Rule.{readerOk, readRefusal}
-use Rattle.entdec.specs.Answer.{startOf}
+use Rattle.entdec.specs.Answer.{saidStart, startOf}
 use Rattle.rate.specs.declared.Numbers.{Numbers}
-use Rattle.rate.specs.declared.AllocRead.{AllocRead}
+use Rattle.rate.specs.declared.ReadAllocation.{ReadAllocation}
 use Rattle.rate.specs.Question.{Lists, lists, numbers, lengthsOk, numbersOk, refusalRead}
 use Rattle.rate.specs.Answer.{Read, afterRead, reading}
 use Rattle.rate.proofs.Accepts.{refused-read}
@@ -43,8 +45,8 @@ use Rattle.rate.specs.declared.AllocRead.the-variants as alloc
 
 -- ---- the allocation
 
-pub said-is : (number : ℕ) (q : Numbers) (s : List ℕ) (d : Reader) {r : AllocRead} {l : Lists} → afterRead r l ≡ allocated q s d
-    → saidLines number (clip (q .start)) (clip (q .end)) r l ≡ answerOf number q s d
+pub said-is : (number : ℕ) (q : Numbers) (s : List ℕ) (d : Reader) {a : Said ReadAllocation} {l : Lists} → _≡_ {A = Read} (record { said = a; lent = l }) (allocated q s d)
+    → saidLines number (clip (q .start)) (clip (q .end)) a l ≡ answerOf number q s d
 unfolding answerOf
 said-is number q s d e =
     ap (λ (x : Read). saidLines number (clip (q .start)) (clip (q .end)) (x .said) (x .lent)) e
@@ -98,14 +100,18 @@ unknown number q s h =
 
 -- ---- the reader
 
-pub started-at : (s : List ℕ) {d : Reader} {r : Started} → length s ≤ 1275 → r ≡ startOf s → r ≡ started.At d → d ≡ freshReader s
+pub started-at : (s : List ℕ) {d : Reader} {r : Started} → length s ≤ 1275 → saidStart r ≡ startOf s → r ≡ started.At d → d ≡ freshReader s
+unfolding answer
 started-at s {d} h p q =
-    let e : startOf s ≡ started.At (freshReader s) = rw (le-leb (length s) 1275 h) in
+    let e : startOf s ≡ done (freshReader s) = rw (le-leb (length s) 1275 h) in
+    let f : done d ≡ startOf s = rw q at p in
     cc
 
-pub started-never : (s : List ℕ) {n : ℕ} {r : Started} → length s ≤ 1275 → r ≡ startOf s → r ≡ started.Refused n → ⊥
+pub started-never : (s : List ℕ) {n : ℕ} {r : Started} → length s ≤ 1275 → saidStart r ≡ startOf s → r ≡ started.Refused n → ⊥
+unfolding answer
 started-never s {n} h p q =
-    let e : startOf s ≡ started.At (freshReader s) = rw (le-leb (length s) 1275 h) in
+    let e : startOf s ≡ done (freshReader s) = rw (le-leb (length s) 1275 h) in
+    let f : refused n ≡ startOf s = rw q at p in
     let z : _≡_ {A = ℕ} 0 1 = cc in
     omega arith
 
@@ -189,12 +195,12 @@ not-taken number s {r} p g = go (framed s) (sym p ∙ g)
 -- ---- the call
 
 pub too-short : (number : ℕ) (line out : List ℕ) → length out < 1200 → told (Refused 2) out ≡ listing number line out
-unfolding listing
+unfolding listing answer lentAfter
 too-short number line out h = rw (lt-leb 1200 (length out) h)
 
 pub wrote : (number : ℕ) (line out : List ℕ) {n : ℕ} {last : List ℕ} → 1200 ≤ length out → Put 1200 out 0 (listingOf number line) n last
     → told (Wrote n) last ≡ listing number line out
-unfolding listing
+unfolding listing answer lentAfter
 wrote number line out h p =
     let e : 0 + length (listingOf number line) ≡ length (listingOf number line) = omega arith in
     rw (le-leb 1200 (length out) h, p .next ∙ e, p .bytes)

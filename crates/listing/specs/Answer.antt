@@ -6,11 +6,12 @@ use lib.Dec.{leb}
 use lib.ListN.{length}
 use lib.Seq.{sets}
 use Rattle.laws.specs.Signs.{clip}
+use Rattle.entcode.specs.Said.{Said, answer, lentAfter}
+use Rattle.entcode.specs.Said.Said.{done, refused}
 use Rattle.entdec.specs.declared.Reader.{Reader}
 use Rattle.entdec.specs.Read.{freshReader}
 use Rattle.rate.specs.declared.Numbers.{Numbers}
-use Rattle.rate.specs.declared.AllocRead.{AllocRead}
-use Rattle.rate.specs.declared.AllocRead.the-variants as alloc
+use Rattle.rate.specs.declared.ReadAllocation.{ReadAllocation}
 use Rattle.rate.specs.Question.{Lists, lists}
 use Rattle.rate.specs.Answer.{Read, reading}
 use Rattle.listing.specs.declared.Parsed.{Parsed}
@@ -26,9 +27,9 @@ unfoldable pub allocated : Numbers → List ℕ → Reader → Read
 allocated q packet d = reading q zeros (capsOf (clip (q .c)) (clip (q .lm))) packet d (lists zeros zeros zeros)
 
 -- the lines of an allocation: R, and a B for each band from start up to end - 1
-abbrev pub saidLines : ℕ → ℕ → ℕ → AllocRead → Lists → List ℕ
-saidLines number start end (alloc.Got y) l = headLine number y ++ bandLines start (end - start) l
-saidLines number start end (alloc.Refused why) l = refusedLine number why
+abbrev pub saidLines : ℕ → ℕ → ℕ → Said ReadAllocation → Lists → List ℕ
+saidLines number start end (done y) l = headLine number y ++ bandLines start (end - start) l
+saidLines number start end (refused why) l = refusedLine number why
 
 -- the lines for numbers and a packet
 unfoldable pub answerOf : ℕ → Numbers → List ℕ → Reader → List ℕ
@@ -47,15 +48,27 @@ listingOf number line = asked number (requestOf line) (packetOf line)
 abbrev pub room : ℕ
 room = 1200
 
--- what the call answers, and the lent buffer after it
+-- what an answer says
+abbrev pub said : Listed → Said ℕ
+said (Wrote n) = done n
+said (Refused n) = refused n
+
+-- what is said, and the lent buffer after the call
 pub record Told : Type 0 where
-  pub said : Listed
+  pub said : Said ℕ
   pub lent : List ℕ
 
 abbrev pub told : Listed → List ℕ → Told
-told r l = record { said = r; lent = l }
+told r l = record { said = said r; lent = l }
 
--- a buffer that is too short is refused as 2, and stays as it was
+-- the number of the refusal, 0 for none, with so many bytes lent: a buffer that is too short (2)
+abbrev pub refusalList : ℕ → ℕ
+refusalList n = cond (leb room n) 0 2
+
+-- number 0: the answer stands at the start of the buffer, and its length is told; any other: that refusal, and the buffer as it was
 unfoldable pub listing : ℕ → List ℕ → List ℕ → Told
 listing number line out =
-    cond (leb room (length out)) (told (Wrote (length (listingOf number line))) (sets out 0 (listingOf number line))) (told (Refused 2) out)
+    record {
+      said = answer (refusalList (length out)) (length (listingOf number line));
+      lent = lentAfter (refusalList (length out)) (sets out 0 (listingOf number line)) out;
+    }

@@ -18,6 +18,7 @@ ghost use Prim.Native.Nat.{_≤_};
 ghost use lib.ListN.{length};
 ghost use Rattle.text.specs.Written.{Put};
 ghost use Rattle.entdec.specs.Read.{freshReader};
+ghost use Rattle.rate.specs.Answer.{saidRead};
 ghost use Rattle.rate.specs.Question.{lists, numbersOk};
 ghost use Rattle.listing.specs.Request.{framed, packetOf};
 ghost use Rattle.listing.specs.Answer.{saidLines, answerOf, listingOf};
@@ -35,7 +36,7 @@ fn said(
 ) -> usize
     requires { ⌜ (start ≤ end) × (end ≤ 21) × (1200 ≤ length (now out)) ⌝ }
     requires { ⌜ (length (now pulses) ≡ 21) × (length (now fine) ≡ 21) × (length (now priorities) ≡ 21) ⌝ }
-    ensures { λ n. ⌜ Put 1200 (now (out .entry)) 0 (saidLines number start end r (lists (now (pulses .entry)) (now (fine .entry)) (now (priorities .entry)))) n (now (out .exit)) ⌝ }
+    ensures { λ n. ⌜ Put 1200 (now (out .entry)) 0 (saidLines number start end (saidRead r) (lists (now (pulses .entry)) (now (fine .entry)) (now (priorities .entry)))) n (now (out .exit)) ⌝ }
 {
     match r {
         AllocRead::Got(y) => {

@@ -12,13 +12,14 @@ use borrow.Author.Tests.{eqb-true, leb-true, ltb-true}
 use Rattle.laws.specs.Places.{overPlaces}
 use Rattle.laws.specs.Signs.{clip}
 use Rattle.laws.proofs.Signs.{range-count}
+use Rattle.entcode.specs.Said.{answer, lentAfter}
 use Rattle.entdec.specs.declared.Reader.{Reader}
 use Rattle.quant_bands.specs.declared.EnergyRead.the-variants.{Got, Refused}
 use Rattle.quant_bands.specs.Asked.{BandsIn}
 use Rattle.quant_bands.specs.Coarse.{Decoded, decoded, Going, going, begun, coarse, coarseBand}
 use Rattle.quant_bands.specs.Finalise.{Spending, spending, finalise}
 use Rattle.quant_bands.specs.Question.{bandsOk, coarseOk, entryOf, isIntra, refusalCoarse, refusalFinalise}
-use Rattle.quant_bands.specs.Answer.{after, answer, numberOf, coarseReading, finaliseReading}
+use Rattle.quant_bands.specs.Answer.{after, answerR, coarseReading, finaliseReading}
 use Rattle.quant_bands.proofs.Ranged.{pass}
 
 -- ---- numbers
@@ -67,12 +68,12 @@ finalise-is c fine priority start end left s d es e = ap (λ (g : Spending). dec
 
 -- ---- answers
 
-said-got : (n : ℕ) (y : Decoded) (es : List Float) {fs : List Float} {d : Reader} → n ≡ 0 → decoded fs d ≡ y → after (Got d) fs ≡ answer n y es
-unfolding answer
+said-got : (n : ℕ) (y : Decoded) (es : List Float) {fs : List Float} {d : Reader} → n ≡ 0 → decoded fs d ≡ y → after (Got d) fs ≡ answerR n y es
+unfolding answer lentAfter
 said-got n y es z e = rw (z, ← e)
 
-said-refused : (n : ℕ) (y : Decoded) (es : List Float) → (n ≡ 0 → ⊥) → after (Refused n) es ≡ answer n y es
-unfolding answer
+said-refused : (n : ℕ) (y : Decoded) (es : List Float) → (n ≡ 0 → ⊥) → after (Refused n) es ≡ answerR n y es
+unfolding answer lentAfter
 said-refused zero y es h = absurd (h refl)
 said-refused (suc n) y es h = refl
 
@@ -104,14 +105,3 @@ module _ (c start end : ℤ) (fine priorities : List ℤ) (left : ℤ) (s : List
       (said-refused (refusalFinalise c start end fine priorities s d es)
       (finalise (clip c) (entryOf fine) (entryOf priorities) (clip start) (clip end) (clip left) s d es)
       es (λ z. h (g ∙ z)))
-
--- an answer's number is the gate's, and a refused call leaves the energies
-pub number-is : (n : ℕ) (y : Decoded) (es : List Float) → numberOf (answer n y es .said) ≡ n
-unfolding answer
-number-is zero y es = refl
-number-is (suc n) y es = refl
-
-pub refused-keeps : (n : ℕ) (y : Decoded) (es : List Float) → (n ≡ 0 → ⊥) → answer n y es .energies ≡ es
-unfolding answer
-refused-keeps zero y es h = absurd (h refl)
-refused-keeps (suc n) y es h = refl

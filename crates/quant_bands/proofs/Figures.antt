@@ -12,6 +12,7 @@ use Rattle.laws.specs.Places.{overPlaces}
 use Rattle.modes.specs.Prediction.{coefOf, betaOf, betaIntra}
 use Rattle.entcode.specs.Counts.{countsOk}
 use Rattle.entcode.specs.Refusal.{refusal}
+use Rattle.entcode.specs.Said.{answer, lentAfter}
 use Rattle.entdec.specs.Read.{freshReader, pulls, pull, readBits, fetches, fetch, byteBack}
 use Rattle.entdec.specs.Rule.{readerOk, readRefusal}
 use Rattle.entdec.specs.Symbols.{readSym}
@@ -20,7 +21,7 @@ use Rattle.quant_bands.specs.Steps.{bitsLeft, readStep}
 use Rattle.quant_bands.specs.Coarse.{kindOf, energyAt, coarseBand, coarse}
 use Rattle.quant_bands.specs.Finalise.{offsetOf, spendAt, takes, spendBand, spendPass, finalise}
 use Rattle.quant_bands.specs.Question.{energiesOk, bandsOk, coarseOk, refusalCoarse, refusalFinalise}
-use Rattle.quant_bands.specs.Answer.{answer, coarseReading, finaliseReading}
+use Rattle.quant_bands.specs.Answer.{coarseReading, finaliseReading}
 
 -- 0 in every place
 abbrev silence : List Float
@@ -39,12 +40,12 @@ adds byte fine =
 -- with 7 fine bits a bit 1 adds 1/512, and a bit 0 takes it away; with 8 nothing is read
 pub last-bit : map (λ (q : ℕ × ℤ). adds (q .0) (q .1)) ((1, pos 7) ∷ (0, pos 7) ∷ (1, pos 8) ∷ [])
     ≡ fin false 1 (negsuc 8) ∷ fin true 1 (negsuc 8) ∷ fin false 0 (pos 0) ∷ []
-unfolding answer refusalFinalise readRefusal refusal readerOk countsOk bandsOk every finalise spendPass overPlaces spendBand takes spendAt offsetOf readSym readBits
+unfolding answer lentAfter refusalFinalise readRefusal refusal readerOk countsOk bandsOk every finalise spendPass overPlaces spendBand takes spendAt offsetOf readSym readBits
     fetches fetch byteBack freshReader pulls pull leadingZeros add sub mul div ofInt
 last-bit = refl
 
 -- an empty packet has no bits: an intra frame's band 0 becomes -1
 pub no-bits : getD (coarseReading (pos 1) (pos 0) (pos 0) (pos 1) (pos 1) [] (freshReader []) silence .energies) 0 nan ≡ fin true 1 (pos 0)
-unfolding answer refusalCoarse readRefusal refusal readerOk countsOk coarseOk bandsOk every coarse overPlaces coarseBand kindOf energyAt readStep bitsLeft predicted carried
+unfolding answer lentAfter refusalCoarse readRefusal refusal readerOk countsOk coarseOk bandsOk every coarse overPlaces coarseBand kindOf energyAt readStep bitsLeft predicted carried
     coefOf betaOf betaIntra freshReader pulls pull leadingZeros add sub mul lt ofInt round
 no-bits = refl

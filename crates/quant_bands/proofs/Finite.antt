@@ -19,16 +19,17 @@ use Rattle.laws.proofs.Places.{places-keep}
 use Rattle.laws.proofs.Tests.{cond-by}
 use Rattle.laws.proofs.Within.{Within, within-more}
 use Rattle.modes.proofs.PredictionRule.{coef-within, beta-within}
+use Rattle.entcode.specs.Said.{lentAfter}
 use Rattle.entdec.specs.declared.Reader.{Reader}
 use Rattle.entdec.proofs.Accepted.{opened}
 use Rattle.entdec.proofs.Values.{raw-value}
 use Rattle.quant_bands.specs.declared.coarse_band.Kind.{Kind}
 use Rattle.quant_bands.specs.Prediction.{predicted}
 use Rattle.quant_bands.specs.Steps.{readStep}
-use Rattle.quant_bands.specs.Coarse.{Decoded, Going, kindOf, energyAt, begun, coarseBand, coarse}
+use Rattle.quant_bands.specs.Coarse.{Going, kindOf, energyAt, begun, coarseBand, coarse}
 use Rattle.quant_bands.specs.Finalise.{Spending, spending, spendAt, takes, spendBand, spendPass, finalise}
 use Rattle.quant_bands.specs.Question.{energiesOk, isIntra, entryOf, refusalCoarse, refusalFinalise}
-use Rattle.quant_bands.specs.Answer.{answer, coarseReading, finaliseReading}
+use Rattle.quant_bands.specs.Answer.{coarseReading, finaliseReading}
 use Rattle.quant_bands.proofs.Stepping.{step-size}
 use Rattle.quant_bands.proofs.BandKind.{kind-legal}
 use Rattle.quant_bands.proofs.Offsets.{offset-within}
@@ -167,10 +168,10 @@ finalise-solid c fine priority start end left s d es e f = pass-solid c 1 fine p
 
 -- ---- the calls: refused or not, energies that are finite f32 stay finite
 
-answer-finite : (n : ℕ) (y : Decoded) (es : List Float) → energiesOk es ≡ true → (n ≡ 0 → energiesOk (y .energies) ≡ true) → energiesOk (answer n y es .energies) ≡ true
-unfolding answer
-answer-finite zero y es f h = h refl
-answer-finite (suc n) y es f h = f
+answer-finite : (n : ℕ) (fs es : List Float) → energiesOk es ≡ true → (n ≡ 0 → energiesOk fs ≡ true) → energiesOk (lentAfter n fs es) ≡ true
+unfolding lentAfter
+answer-finite zero fs es f h = h refl
+answer-finite (suc n) fs es f h = f
 
 coarse-accepted : (c lm start end intra : ℤ) (s : List ℕ) (d : Reader) (es : List Float) → every (fits binary32) es ≡ true → energiesOk es ≡ true
     → refusalCoarse c lm start end intra s d es ≡ 0 → energiesOk (coarse (clip c) (clip lm) (isIntra intra) (clip start) (clip end) s d es .energies) ≡ true

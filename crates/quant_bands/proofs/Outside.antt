@@ -15,12 +15,13 @@ use Rattle.laws.specs.Places.{overPlaces}
 use Rattle.laws.specs.Signs.{clip}
 use Rattle.laws.proofs.Places.{places-keep}
 use Rattle.laws.proofs.Tests.{cond-by}
+use Rattle.entcode.specs.Said.{lentAfter}
 use Rattle.entdec.specs.declared.Reader.{Reader}
 use Rattle.quant_bands.specs.declared.coarse_band.Kind.{Kind}
 use Rattle.quant_bands.specs.Coarse.{Decoded, Going, energyAt, begun, coarseBand, coarse}
 use Rattle.quant_bands.specs.Finalise.{Spending, spending, spendAt, takes, spendBand, spendPass, finalise}
 use Rattle.quant_bands.specs.Question.{isIntra, entryOf}
-use Rattle.quant_bands.specs.Answer.{answer, coarseReading, finaliseReading}
+use Rattle.quant_bands.specs.Answer.{coarseReading, finaliseReading}
 
 -- place k is neither that of a band start..end-1 in channel 0 nor, with two channels, that of one in channel 1
 abbrev pub Outside : ℕ → ℕ → ℕ → ℕ → Type 0
@@ -112,8 +113,8 @@ finalise-stays c fine priority start end left s d es k h =
 
 -- ---- the calls, refused ones too
 
-answer-stays : (n : ℕ) (y : Decoded) (es : List Float) (k : ℕ) → Stays k es (y .energies) → Stays k es (answer n y es .energies)
-unfolding answer
+answer-stays : (n : ℕ) (y : Decoded) (es : List Float) (k : ℕ) → Stays k es (y .energies) → Stays k es (lentAfter n (y .energies) es)
+unfolding lentAfter
 answer-stays zero y es k h = h
 answer-stays (suc n) y es k h = stays-none k es
 

@@ -13,6 +13,7 @@ use Rattle.laws.specs.Lists.{every}
 use Rattle.laws.specs.Signs.{clip, inRange}
 use Rattle.laws.proofs.Signs.{entries-count, range-count}
 use Rattle.entdec.specs.declared.Reader.{Reader}
+use Rattle.entcode.specs.Said.{answer, lentAfter}
 use Rattle.entcode.proofs.Refusals.{passed}
 use Rattle.entenc.specs.declared.Writer.{Writer}
 use Rattle.entenc.specs.Rule.{writeRefusal, writerOk}
@@ -118,21 +119,21 @@ opened m w lengths numbers lists h =
 
 pub got-read : (n : ℕ) (a : In) (x : Out × Reader) (l : Lists) {y : ReadAllocation} {m : Lists} → n ≡ 0 → y ≡ readShown x → m ≡ listsOf a (x .0) l
     → afterRead (read.Got y) m ≡ answerRead n a x l
-unfolding answerRead
+unfolding answerRead answer lentAfter
 got-read n a x l z e f = rw (z, e, f)
 
 pub refused-read : (n : ℕ) (a : In) (x : Out × Reader) (l : Lists) → (n ≡ 0 → ⊥) → afterRead (read.Refused n) l ≡ answerRead n a x l
-unfolding answerRead
+unfolding answerRead answer lentAfter
 refused-read zero a x l h = absurd (h refl)
 refused-read (suc n) a x l h = refl
 
 pub got-written : (n : ℕ) (a : In) (x : Out × Wr) (l : Lists) (w : Wr) {y : WrittenAllocation} {m : Lists} {b : List ℕ}
     → n ≡ 0 → y ≡ writtenShown x → b ≡ x .1 .bytes → m ≡ listsOf a (x .0) l → afterWritten (wrote.Got y) m b ≡ answerWritten n a x l w
-unfolding answerWritten
+unfolding answerWritten answer lentAfter
 got-written n a x l w z e f g = rw (z, e, f, g)
 
 pub refused-written : (n : ℕ) (a : In) (x : Out × Wr) (l : Lists) (w : Wr) → (n ≡ 0 → ⊥) → afterWritten (wrote.Refused n) l (w .bytes) ≡ answerWritten n a x l w
-unfolding answerWritten
+unfolding answerWritten answer lentAfter
 refused-written zero a x l w h = absurd (h refl)
 refused-written (suc n) a x l w h = refl
 

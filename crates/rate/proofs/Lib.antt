@@ -4,4 +4,5 @@ pub mod Asking
 pub mod Joined
 pub mod Shown
 pub mod Accepts
+pub mod Said
 pub mod Coded

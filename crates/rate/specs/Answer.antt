@@ -1,11 +1,13 @@
--- What an allocation answers, by document 01's number of the refusal and the values, and what the lent lists and bytes then hold.
-use Prim.Native.Nat.{ℕ, zero, suc, _-_}
+-- What an allocation says, by document 01's number of the refusal and the values, and what the lent lists and bytes then hold.
+use Prim.Native.Nat.{ℕ, _-_}
 use mathlib.Core.Bool.{Bool, cond}
 use mathlib.Core.List.{List}
 use lib.IntN.{ℤ, pos}
 use lib.Signed.{ltZ}
 use Rattle.laws.specs.Lists.{fill}
 use Rattle.laws.specs.Signs.{clip}
+use Rattle.entcode.specs.Said.{Said, answer, lentAfter}
+use Rattle.entcode.specs.Said.Said.{done, refused}
 use Rattle.entdec.specs.declared.Reader.{Reader}
 use Rattle.entenc.specs.declared.Writer.{Writer}
 use Rattle.entenc.specs.Write.{Wr}
@@ -53,28 +55,27 @@ writtenShown (o, w) = writtenNumbers (o .coded) (o .balance) (o .intensity) (o .
 abbrev pub readAlloc : In → List ℕ → Reader → Out × Reader
 readAlloc a s d = alloc a (readAsk s) d
 
--- an answer, and the lent lists after the call
+-- what an answer says
+abbrev pub saidRead : AllocRead → Said ReadAllocation
+saidRead (read.Got y) = done y
+saidRead (read.Refused n) = refused n
+
+-- what is said, and the lent lists after the call
 pub record Read : Type 0 where
-  pub said : AllocRead
+  pub said : Said ReadAllocation
   pub lent : Lists
 
 abbrev pub afterRead : AllocRead → Lists → Read
-afterRead r l = record { said = r; lent = l }
+afterRead r l = record { said = saidRead r; lent = l }
 
 -- number 0: the allocation, and its lists; any other: that refusal, and the lists as they were
 unfoldable pub answerRead : ℕ → In → Out × Reader → Lists → Read
-answerRead zero a o l = afterRead (read.Got (readShown o)) (listsOf a (o .0) l)
-answerRead (suc n) a o l = afterRead (read.Refused (suc n)) l
+answerRead n a o l = record { said = answer n (readShown o); lent = lentAfter n (listsOf a (o .0) l) l }
 
 -- a checked read
 abbrev pub reading : Numbers → List ℤ → List ℤ → List ℕ → Reader → Lists → Read
 reading q offsets caps s d l =
     answerRead (refusalRead q offsets caps l s d) (allocInput q offsets caps) (readAlloc (allocInput q offsets caps) s d) l
-
--- document 01's number of an answer, 0 where it is no refusal
-abbrev pub numberRead : AllocRead → ℕ
-numberRead (read.Got y) = 0
-numberRead (read.Refused n) = n
 
 -- ---- writing
 
@@ -86,26 +87,26 @@ writeAlloc a intensity dual previous bandwidth w = alloc a (writeAsk a previous 
 abbrev pub writeWished : In → Wishes → Wr → Out × Wr
 writeWished a h w = writeAlloc a (clip (h .intensity)) (ltZ (pos 0) (h .dual)) (h .previous) (h .bandwidth) w
 
--- an answer, and the lent lists and bytes after the call
+-- what an answer says
+abbrev pub saidWrote : AllocWrote → Said WrittenAllocation
+saidWrote (wrote.Got y) = done y
+saidWrote (wrote.Refused n) = refused n
+
+-- what is said, and the lent lists and bytes after the call
 pub record Written : Type 0 where
-  pub said : AllocWrote
+  pub said : Said WrittenAllocation
   pub lent : Lists
   pub bytes : List ℕ
 
 abbrev pub afterWritten : AllocWrote → Lists → List ℕ → Written
-afterWritten r l b = record { said = r; lent = l; bytes = b }
+afterWritten r l b = record { said = saidWrote r; lent = l; bytes = b }
 
 -- number 0: the allocation, its lists and the bytes; any other: that refusal, and lists and bytes as they were
 unfoldable pub answerWritten : ℕ → In → Out × Wr → Lists → Wr → Written
-answerWritten zero a o l w = afterWritten (wrote.Got (writtenShown o)) (listsOf a (o .0) l) (o .1 .bytes)
-answerWritten (suc n) a o l w = afterWritten (wrote.Refused (suc n)) l (w .bytes)
+answerWritten n a o l w =
+    record { said = answer n (writtenShown o); lent = lentAfter n (listsOf a (o .0) l) l; bytes = lentAfter n (o .1 .bytes) (w .bytes) }
 
 -- a checked write
 abbrev pub writing : Numbers → Wishes → List ℤ → List ℤ → Wr → Lists → Written
 writing q h offsets caps w l =
     answerWritten (refusalWrite q offsets caps l h w) (allocInput q offsets caps) (writeWished (allocInput q offsets caps) h w) l w
-
--- document 01's number of an answer, 0 where it is no refusal
-abbrev pub numberWritten : AllocWrote → ℕ
-numberWritten (wrote.Got y) = 0
-numberWritten (wrote.Refused n) = n

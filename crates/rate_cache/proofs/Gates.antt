@@ -14,9 +14,11 @@ use Rattle.modes.specs.CacheBits.{rowLength, Row}
 use Rattle.modes.specs.CacheIndex.{place, rowStart}
 use Rattle.modes.proofs.CacheRule.{row-at}
 use Rattle.entcode.specs.Refusal.{refusal}
+use Rattle.entcode.specs.Said.{answer}
+use Rattle.entcode.specs.Said.Said.{done, refused}
 use Rattle.entcode.proofs.Refusals.{passed}
 use Rattle.rate_cache.specs.declared.Answer.the-variants.{Found, Refused}
-use Rattle.rate_cache.specs.Answers.{answer, numberOf, valueOf}
+use Rattle.rate_cache.specs.Answers.{said}
 use Rattle.rate_cache.specs.Lookups.{refusalOf, levelOf, bandOk, bitsOk, HasRow, noRow, noEntry}
 
 -- ---- LM + 1
@@ -101,22 +103,12 @@ gate-off n own p e = rw (p, e)
 
 -- ---- the answer by its number
 
-pub answer-no : (n v : ℕ) {m : ℕ} → m ≡ n → (m ≡ 0 → ⊥) → Refused m ≡ answer n v
+pub answer-no : (n v : ℕ) {m : ℕ} → m ≡ n → (m ≡ 0 → ⊥) → said (Refused m) ≡ answer n v
 unfolding answer
 answer-no zero v p h = absurd (h p)
-answer-no (suc n) v p h = ap Refused p
+answer-no (suc n) v p h = ap refused p
 
-pub answer-yes : (n v : ℕ) {m w : ℕ} → m ≡ n → m ≡ 0 → w ≡ v → Found w ≡ answer n v
+pub answer-yes : (n v : ℕ) {m w : ℕ} → m ≡ n → m ≡ 0 → w ≡ v → said (Found w) ≡ answer n v
 unfolding answer
-answer-yes zero v p h q = ap Found q
+answer-yes zero v p h q = ap done q
 answer-yes (suc n) v p h q = absurd (omega arith)
-
--- number and value of an answer
-pub number-is : (n v : ℕ) → numberOf (answer n v) ≡ n
-unfolding answer
-number-is zero v = refl
-number-is (suc n) v = refl
-
-pub value-is : (v : ℕ) → valueOf (answer 0 v) ≡ v
-unfolding answer
-value-is v = refl

@@ -5,3 +5,4 @@ pub mod Costs
 pub mod Halvings
 pub mod Packings
 pub mod Gates
+pub mod Said

@@ -7,10 +7,9 @@ use Rattle.laws.specs.Signs.{clip, inRange}
 use Rattle.modes.specs.CacheBits.{rowLength}
 use Rattle.modes.specs.CacheIndex.{place, rowStart}
 use Rattle.entcode.specs.Refusal.{refusal}
-use Rattle.rate_cache.specs.declared.Answer.{Answer}
+use Rattle.entcode.specs.Said.{Said, answer}
 use Rattle.rate_cache.specs.Pulses.{getPulses}
 use Rattle.rate_cache.specs.Rows.{pulsesFor, bitsFor}
-use Rattle.rate_cache.specs.Answers.{answer}
 
 -- a call that lends no list and no coder: only its numbers (1) and its own rule can refuse it
 abbrev pub refusalOf : Bool → ℕ → ℕ
@@ -43,15 +42,15 @@ unfoldable pub noEntry : ℕ → ℕ → ℤ → ℕ
 noEntry lm band pulses = cond (eqb (place lm band) 0) 5 (cond (inRange (pos 0) (pos (rowLength (rowStart lm band))) pulses) 0 6)
 
 -- get_pulses: i is 0..40
-unfoldable pub pulsesAt : ℤ → Answer
+unfoldable pub pulsesAt : ℤ → Said ℕ
 pulsesAt i = answer (refusalOf (inRange (pos 0) (pos 40) i) 0) (getPulses (clip i))
 
 -- bits2pulses
-unfoldable pub bitsToPulses : ℤ → ℤ → ℤ → Answer
+unfoldable pub bitsToPulses : ℤ → ℤ → ℤ → Said ℕ
 bitsToPulses band lm bits =
     answer (refusalOf (bandOk band lm && bitsOk bits) (noRow (levelOf lm) (clip band))) (pulsesFor (rowStart (levelOf lm) (clip band)) bits)
 
 -- pulses2bits
-unfoldable pub pulsesToBits : ℤ → ℤ → ℤ → Answer
+unfoldable pub pulsesToBits : ℤ → ℤ → ℤ → Said ℕ
 pulsesToBits band lm pulses =
     answer (refusalOf (bandOk band lm) (noEntry (levelOf lm) (clip band) pulses)) (bitsFor (rowStart (levelOf lm) (clip band)) (clip pulses))

@@ -4,6 +4,7 @@ ghost use mathlib.Core.Bool.{_&&_};
 ghost use Prim.Native.Nat.{_≤_, _<_};
 ghost use Rattle.laws.specs.Signs.{clip};
 ghost use Rattle.modes.specs.CacheIndex.{rowStart};
+ghost use Rattle.rate_cache.specs.Answers.{said};
 ghost use Rattle.rate_cache.specs.Pulses.{getPulses};
 ghost use Rattle.rate_cache.specs.Lookups.{
   refusalOf,
@@ -125,7 +126,7 @@ fn pulses_refusal(band: i32, lm: i32, pulses: i32) -> u32
 
 // The number of pulses that an index of the cache stands for.
 pub fn get_pulses(i: i32) -> Answer
-    ensures { λ r. ⌜ r ≡ pulsesAt i ⌝ }
+    ensures { λ r. ⌜ said r ≡ pulsesAt i ⌝ }
 {
     let no = refusal_of(laws::in_range(i, 0, 40), 0);
     if no != 0 {
@@ -136,7 +137,7 @@ pub fn get_pulses(i: i32) -> Answer
 
 // The index of pulses whose cost is nearest to the bits.
 pub fn bits2pulses(band: i32, lm: i32, bits: i32) -> Answer
-    ensures { λ r. ⌜ r ≡ bitsToPulses band lm bits ⌝ }
+    ensures { λ r. ⌜ said r ≡ bitsToPulses band lm bits ⌝ }
 {
     let no = bits_refusal(band, lm, bits);
     if no != 0 {
@@ -147,7 +148,7 @@ pub fn bits2pulses(band: i32, lm: i32, bits: i32) -> Answer
 
 // What an index of pulses costs.
 pub fn pulses2bits(band: i32, lm: i32, pulses: i32) -> Answer
-    ensures { λ r. ⌜ r ≡ pulsesToBits band lm pulses ⌝ }
+    ensures { λ r. ⌜ said r ≡ pulsesToBits band lm pulses ⌝ }
 {
     let no = pulses_refusal(band, lm, pulses);
     if no != 0 {

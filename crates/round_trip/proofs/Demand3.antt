@@ -11,6 +11,7 @@ use lib.Signed.{ltZ}
 use Rattle.laws.specs.Lists.{Bytes}
 use Rattle.laws.specs.Signs.{clip}
 use Rattle.laws.proofs.Lists.{fill-in}
+use Rattle.entcode.specs.Said.{answer, lentAfter}
 use Rattle.entcode.specs.Sym.{Sym}
 use Rattle.entdec.specs.declared.Reader.{Reader}
 use Rattle.entdec.specs.Read.{freshReader}
@@ -95,7 +96,7 @@ same-in a o figure x y p q h j l u =
     ∙ sym (fill-in f (a .end - a .start) (a .start) j y (pos 0) l (omega arith) (omega arith))
 
 got-read : (n : ℕ) (a : In) (x : Out × Reader) (l : Lists) → n ≡ 0 → answerRead n a x l ≡ afterRead (allocRead.Got (readShown x)) (listsOf a (x .0) l)
-unfolding answerRead
+unfolding answerRead answer lentAfter
 got-read n a x l z = rw z
 
 -- the writer after an allocation

@@ -9,13 +9,14 @@ use lib.IntN.{ℤ}
 use lib.ListN.{length}
 use borrow.Author.Tests.{leb-true, le-leb}
 use Rattle.entcode.specs.Counts.{tellOk}
+use Rattle.entcode.specs.Said.{answer, lentAfter}
+use Rattle.entcode.specs.Said.Said.{done, refused}
 use Rattle.entcode.proofs.Refusals.{passed}
-use Rattle.entdec.specs.declared.Started.the-variants.{At}
 use Rattle.entdec.specs.Answer.{startOf as readerOver}
 use Rattle.entdec.specs.Read.{freshReader}
 use Rattle.entenc.specs.declared.Writer.{Writer}
-use Rattle.entenc.specs.declared.Answer.the-variants.{Next, Refused}
-use Rattle.entenc.specs.Answer.{startOf as writerOver, After, after, answer, closing}
+use Rattle.entenc.specs.declared.Answer.the-variants.{Next}
+use Rattle.entenc.specs.Answer.{startOf as writerOver, After, after, answerW, closing}
 use Rattle.entenc.specs.Close.{closeW}
 use Rattle.entenc.specs.Rule.{writerOk, writeRefusal, refusalClose}
 use Rattle.entenc.specs.Write.{Wr, freshWriter}
@@ -32,14 +33,17 @@ use Rattle.rate.proofs.Accepts.{entries, framed}
 
 -- ---- a new writer, a new reader
 
-pub new-writer : (n : ℕ) (w : Writer) → writerOver n ≡ Next w → (n ≤ 1275) × (w ≡ freshWriter n)
-new-writer n w e = go (leb n 1275) refl e
-  where
-    go : (b : Bool) → leb n 1275 ≡ b → cond b (Next (freshWriter n)) (Refused 1) ≡ Next w → (n ≤ 1275) × (w ≡ freshWriter n)
-    go true t e = (leb-true n 1275 t, cc)
-    go false t e = let z : _≡_ {A = ℕ} 0 1 = cc in absurd (omega arith)
+-- by the test of the length
+started-by : (n : ℕ) (w : Writer) (b : Bool) → leb n 1275 ≡ b → answer (cond b 0 1) (freshWriter n) ≡ done w → (n ≤ 1275) × (w ≡ freshWriter n)
+unfolding answer
+started-by n w true t e = (leb-true n 1275 t, cc)
+started-by n w false t e = let z : _≡_ {A = ℕ} 0 1 = cc in absurd (omega arith)
 
-pub new-reader : (s : List ℕ) → length s ≤ 1275 → readerOver s ≡ At (freshReader s)
+pub new-writer : (n : ℕ) (w : Writer) → writerOver n ≡ done w → (n ≤ 1275) × (w ≡ freshWriter n)
+new-writer n w e = started-by n w (leb n 1275) refl e
+
+pub new-reader : (s : List ℕ) → length s ≤ 1275 → readerOver s ≡ done (freshReader s)
+unfolding answer
 new-reader s h = rw (le-leb (length s) 1275 h)
 
 -- ---- a close
@@ -55,14 +59,14 @@ record Shut (n : ℕ) (v : Wr) (last : Writer) (packet : List ℕ) : Type 0 wher
   state : last ≡ v .st
   bytes : packet ≡ v .bytes
 
-shut : (n : ℕ) (w v : Wr) (last : Writer) (packet : List ℕ) → answer n w v ≡ after (Next last) packet → Shut n v last packet
-unfolding answer
+shut : (n : ℕ) (w v : Wr) (last : Writer) (packet : List ℕ) → answerW n w v ≡ after (Next last) packet → Shut n v last packet
+unfolding answer lentAfter
 shut zero w v last packet e =
-    let p : Next (v .st) ≡ Next last = ap (λ (x : After). x .said) e in
+    let p : done (v .st) ≡ done last = ap (λ (x : After). x .said) e in
     let q : v .bytes ≡ packet = ap (λ (x : After). x .bytes) e in
     record { none = refl; state = cc; bytes = cc }
 shut (suc n) w v last packet e =
-    let p : Refused (suc n) ≡ Next last = ap (λ (x : After). x .said) e in
+    let p : refused (suc n) ≡ done last = ap (λ (x : After). x .said) e in
     let z : _≡_ {A = ℕ} 0 1 = cc in
     absurd (omega arith)
 
@@ -82,14 +86,14 @@ record Gave (n : ℕ) (a : In) (o : Out × Wr) (l : Lists) (y : WrittenAllocatio
 
 gave : (n : ℕ) (a : In) (o : Out × Wr) (l : Lists) (w : Wr) (y : WrittenAllocation) (m : Lists) (b : List ℕ)
     → answerWritten n a o l w ≡ afterWritten (allocWritten.Got y) m b → Gave n a o l y m b
-unfolding answerWritten
+unfolding answerWritten answer lentAfter
 gave zero a o l w y m b e =
-    let p : allocWritten.Got (writtenShown o) ≡ allocWritten.Got y = ap (λ (x : Written). x .said) e in
+    let p : done (writtenShown o) ≡ done y = ap (λ (x : Written). x .said) e in
     let q : listsOf a (o .0) l ≡ m = ap (λ (x : Written). x .lent) e in
     let r : o .1 .bytes ≡ b = ap (λ (x : Written). x .bytes) e in
     record { none = refl; shows = cc; lists = cc; bytes = cc }
 gave (suc n) a o l w y m b e =
-    let p : allocWritten.Refused (suc n) ≡ allocWritten.Got y = ap (λ (x : Written). x .said) e in
+    let p : refused (suc n) ≡ done y = ap (λ (x : Written). x .said) e in
     let z : _≡_ {A = ℕ} 0 1 = cc in
     absurd (omega arith)
 

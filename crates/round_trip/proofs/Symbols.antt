@@ -10,22 +10,22 @@ use lib.ListN.{length}
 use borrow.Author.Tests.{eq-eqb}
 use Rattle.entcode.specs.Counts.{tellOk}
 use Rattle.entcode.specs.Refusal.{refusal}
+use Rattle.entcode.specs.Said.{answer, lentAfter}
 use Rattle.entcode.specs.Sym.{Shape, Sym, symOf, adjust, lengthOk, shapeOk, listOk}
 use Rattle.entcode.specs.Sym.Shape.{bit as bitShape, table as tableShape, uint as uniformShape, raw as rawShape}
 use Rattle.entdec.specs.declared.Reader.{Reader}
 use Rattle.entdec.specs.declared.Read.{Read}
-use Rattle.entdec.specs.Answer.{answer}
 use Rattle.entdec.specs.Symbols.{readSym}
 use Rattle.entdec.specs.Rule.{readRefusal, refusalR}
 use Rattle.entenc.specs.declared.Writer.{Writer}
 use Rattle.entenc.specs.Write.{Wr}
-use Rattle.entenc.specs.Answer.{answer as answerW}
+use Rattle.entenc.specs.Answer.{answerW}
 use Rattle.entenc.specs.Symbols.{writeSym}
 use Rattle.entenc.specs.Rule.{writerOk, refusalW}
 use Rattle.entenc.proofs.Taken.{taken}
 use Rattle.laplace.specs.declared.LapSym.{LapSym}
 use Rattle.laplace.specs.Model.{valueAt}
-use Rattle.laplace.specs.Answer.{lap, answerR, answerW as answerLap}
+use Rattle.laplace.specs.Answer.{lap, answerW as answerLap}
 use Rattle.laplace.proofs.Known.{known-parts}
 use Rattle.laplace.proofs.Lawful.{lap-cut, lap-finds}
 use Rattle.trip.specs.Lawful.{Laws}
@@ -69,12 +69,12 @@ record Gave (A : Type 0) (n : ℕ) (v v′ : A) (w w′ : Wr) : Type 0 where
   next : w′ ≡ w
 
 gave-put : (n v v′ : ℕ) (w u w′ : Wr) → putBy v (answerW n w u .said) (answerW n w u .bytes) ≡ put v′ w′ → Gave ℕ n v v′ u w′
-unfolding answerW
+unfolding answer lentAfter
 gave-put zero v v′ w u w′ e = record { none = refl; value = cc; next = cc }
 gave-put (suc n) v v′ w u w′ e = let z : _≡_ {A = ℕ} 0 1 = cc in absurd (omega arith)
 
 gave-lap : (n : ℕ) (v v′ : ℤ) (w u w′ : Wr) → putLap (answerLap n v w u .said) (answerLap n v w u .bytes) ≡ put v′ w′ → Gave ℤ n v v′ u w′
-unfolding answerLap
+unfolding answer lentAfter
 gave-lap zero v v′ w u w′ e = record { none = refl; value = cc; next = cc }
 gave-lap (suc n) v v′ w u w′ e = let z : _≡_ {A = ℕ} 0 1 = cc in absurd (omega arith)
 
@@ -104,8 +104,8 @@ took-by : (n : ℕ) (y : Read) (v : ℕ) → n ≡ 0 → y .value ≡ v → took
 unfolding answer
 took-by n y v z e = rw (z, e)
 
-took-lap : (n : ℕ) (y : LapSym) (v : ℤ) → n ≡ 0 → y .value ≡ v → tookLap (answerR n y) ≡ took v (y .next)
-unfolding answerR
+took-lap : (n : ℕ) (y : LapSym) (v : ℤ) → n ≡ 0 → y .value ≡ v → tookLap (answer n y) ≡ took v (y .next)
+unfolding answer
 took-lap n y v z e = rw (z, e)
 
 -- what is read where the gate lets in

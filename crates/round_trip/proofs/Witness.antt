@@ -14,16 +14,16 @@ use Rattle.modes.specs.Vectors.{vectors, step}
 use Rattle.entcode.specs.Counts.{countsOk}
 use Rattle.entcode.specs.Range.{turns, off, wid}
 use Rattle.entcode.specs.Refusal.{refusal}
+use Rattle.entcode.specs.Said.{Said, answer, lentAfter}
+use Rattle.entcode.specs.Said.Said.{done, refused}
 use Rattle.entcode.specs.Sym.{findSym, falls, partsOf, adjust, shapeOk, valueOk, lengthOk, listOk}
 use Rattle.entcode.specs.Tell.{eighths}
-use Rattle.entenc.specs.Answer.{answer}
 use Rattle.entenc.specs.Close.{rounded, tailBits, tailEnd, endW, closeOut, closeW}
 use Rattle.entenc.specs.Rule.{writerOk, writeRefusal, refusalW, refusalClose}
 use Rattle.entenc.specs.Symbols.{writeParts}
 use Rattle.entenc.specs.Write.{shiftW, shiftsW, cutW, bitsW}
 use Rattle.entout.specs.Gap.{zeroed, finished}
 use Rattle.entout.specs.Out.{putFront, putEnd, emit, flushed, leftOf}
-use Rattle.laplace.specs.Answer.{answerW}
 use Rattle.laplace.specs.Chain.{walk, spanOf}
 use Rattle.laplace.specs.Model.{valueAt}
 use Rattle.laplace.specs.Pairs.{among, pairKnown}
@@ -36,21 +36,18 @@ use Rattle.rate_def.specs.Skips.{lastBoost, skipStart, widthUpTo, reserveNext, 
 use Rattle.rate_def.specs.Split.{withOffset, wanted, extra, spill, fineOf, prioOf, splitOf}
 use Rattle.rate_def.specs.Trials.{halve, reached, floored, takes, over, vector, sixtyfourths, keeps, bitsOf}
 use Rattle.rate_def.specs.Vectors.{threshold, slope, trimUp, trimDown, trimmed, vectorBits, lowBits, highBits, interpolated}
-use Rattle.rate.specs.Answer.{answerWritten}
 use Rattle.rate.specs.Question.{frameOf, numbersOk, stereoOk, refusalWrite}
 use Rattle.round_trip.specs.Calls.{writeCall}
 use Rattle.round_trip.specs.Rows.{writeAll}
 use Rattle.round_trip.specs.Example.{exampleBytes, exampleLists, exampleSymbols, exampleNumbers, exampleBoosts, exampleCaps, exampleWishes}
 use Rattle.entenc.specs.declared.Writer.{Writer}
-use Rattle.entenc.specs.declared.Answer.{Answer}
 use Rattle.entenc.specs.declared.Answer.the-variants as answered
 use Rattle.entenc.specs.Answer.{startOf as writerOver, After, after, closing}
 use Rattle.entenc.specs.Write.{Wr, freshWriter, wr}
 use Rattle.rate.specs.declared.WrittenAllocation.{WrittenAllocation}
-use Rattle.rate.specs.declared.AllocWrote.{AllocWrote}
 use Rattle.rate.specs.declared.AllocWrote.the-variants as allocWritten
 use Rattle.rate_def.specs.Asked.{Out}
-use Rattle.rate.specs.Answer.{Written, afterWritten, writing, writtenNumbers}
+use Rattle.rate.specs.Answer.{Written, afterWritten, answerWritten, writing, writtenNumbers}
 use Rattle.round_trip.specs.Calls.{Symbol, Tells}
 use Rattle.round_trip.specs.Rows.{Wrote}
 use Rattle.round_trip.specs.Rows.Wrote.{wrote, noWrite}
@@ -59,20 +56,20 @@ use Rattle.round_trip.specs.Example.{ExampleSent}
 
 -- ---- a call that was accepted, and what it gave; anything for a refusal
 
-abbrev accepted : Answer → Bool
-accepted (answered.Next w) = true
-accepted (answered.Refused n) = false
+abbrev accepted : Said Writer → Bool
+accepted (done w) = true
+accepted (refused n) = false
 
-abbrev writerIn : Answer → Writer
-writerIn (answered.Next w) = w
-writerIn (answered.Refused n) = freshWriter 0
+abbrev writerIn : Said Writer → Writer
+writerIn (done w) = w
+writerIn (refused n) = freshWriter 0
 
-answer-is : (r : Answer) → accepted r ≡ true → r ≡ answered.Next (writerIn r)
-answer-is (answered.Next w) e = refl
-answer-is (answered.Refused n) e = absurd (true≢false (sym e))
+answer-is : (r : Said Writer) → accepted r ≡ true → r ≡ done (writerIn r)
+answer-is (done w) e = refl
+answer-is (refused n) e = absurd (true≢false (sym e))
 
 close-is : (x : After) → accepted (x .said) ≡ true → x ≡ after (answered.Next (writerIn (x .said))) (x .bytes)
-close-is x e = ap (λ (r : Answer). after r (x .bytes)) (answer-is (x .said) e)
+close-is x e = ap (λ (r : Said Writer). record { said = r; bytes = x .bytes }) (answer-is (x .said) e)
 
 abbrev wroteAll : Wrote → Bool
 wroteAll (wrote w zs ts) = true
@@ -94,24 +91,24 @@ row-is : (x : Wrote) → wroteAll x ≡ true → x ≡ wrote (rowIn x) (symbolsI
 row-is (wrote w zs ts) e = refl
 row-is (noWrite i n) e = absurd (true≢false (sym e))
 
-abbrev allotted : AllocWrote → Bool
-allotted (allocWritten.Got y) = true
-allotted (allocWritten.Refused n) = false
+abbrev allotted : Said WrittenAllocation → Bool
+allotted (done y) = true
+allotted (refused n) = false
 
-abbrev sharesIn : AllocWrote → WrittenAllocation
-sharesIn (allocWritten.Got y) = y
-sharesIn (allocWritten.Refused n) = writtenNumbers 0 0 0 false (freshWriter 0)
+abbrev sharesIn : Said WrittenAllocation → WrittenAllocation
+sharesIn (done y) = y
+sharesIn (refused n) = writtenNumbers 0 0 0 false (freshWriter 0)
 
-shares-is : (r : AllocWrote) → allotted r ≡ true → r ≡ allocWritten.Got (sharesIn r)
-shares-is (allocWritten.Got y) e = refl
-shares-is (allocWritten.Refused n) e = absurd (true≢false (sym e))
+shares-is : (r : Said WrittenAllocation) → allotted r ≡ true → r ≡ done (sharesIn r)
+shares-is (done y) e = refl
+shares-is (refused n) e = absurd (true≢false (sym e))
 
 written-is : (x : Written) → allotted (x .said) ≡ true → x ≡ afterWritten (allocWritten.Got (sharesIn (x .said))) (x .lent) (x .bytes)
-written-is x e = ap (λ (r : AllocWrote). afterWritten r (x .lent) (x .bytes)) (shares-is (x .said) e)
+written-is x e = ap (λ (r : Said WrittenAllocation). record { said = r; lent = x .lent; bytes = x .bytes }) (shares-is (x .said) e)
 
 -- ---- the calls of the example
 
-unfoldable exampleFirst : Answer
+unfoldable exampleFirst : Said Writer
 exampleFirst = writerOver (length exampleBytes)
 
 unfoldable exampleRow : Wrote
@@ -138,7 +135,7 @@ record Computed : Type 0 where
   dual : exampleOut .dualCoded ≡ true
 
 computed : Computed
-unfolding every fill overPlaces sumOf edges edge width energyModel zeroAt decayAt pairAt fractions fraction logWidths logWidth vectors step countsOk turns off wid refusal findSym falls partsOf adjust shapeOk valueOk lengthOk listOk eighths answer rounded tailBits tailEnd endW closeOut closeW writerOk writeRefusal refusalW refusalClose writeParts shiftW shiftsW cutW bitsW zeroed finished putFront putEnd emit flushed leftOf answerW walk spanOf valueAt among pairKnown rows decaysIn decaysFor spanZ skipped degrees spread splitBand carried bandOf firstRound dualAsked leftOfRatedef finish askIntensity askDual allocFrom alloc depth stops deciding skipReserve stereoFits intensityReserve dualReserve budget lastBoost skipStart widthUpTo reserveNext topBits asks paid keep dropped flagOf skip withOffset wanted extra spill fineOf prioOf splitOf halve reached floored takes over vector sixtyfourths keeps bitsOf threshold slope trimUp trimDown trimmed vectorBits lowBits highBits interpolated answerWritten frameOf numbersOk stereoOk refusalWrite writeCall writeAll exampleBytes exampleLists exampleSymbols exampleNumbers exampleBoosts exampleCaps exampleWishes leadingZeros exampleFirst exampleRow exampleWritten exampleClosed exampleOut
+unfolding every fill overPlaces sumOf edges edge width energyModel zeroAt decayAt pairAt fractions fraction logWidths logWidth vectors step countsOk turns off wid refusal findSym falls partsOf adjust shapeOk valueOk lengthOk listOk eighths answer lentAfter rounded tailBits tailEnd endW closeOut closeW writerOk writeRefusal refusalW refusalClose writeParts shiftW shiftsW cutW bitsW zeroed finished putFront putEnd emit flushed leftOf walk spanOf valueAt among pairKnown rows decaysIn decaysFor spanZ skipped degrees spread splitBand carried bandOf firstRound dualAsked leftOfRatedef finish askIntensity askDual allocFrom alloc depth stops deciding skipReserve stereoFits intensityReserve dualReserve budget lastBoost skipStart widthUpTo reserveNext topBits asks paid keep dropped flagOf skip withOffset wanted extra spill fineOf prioOf splitOf halve reached floored takes over vector sixtyfourths keeps bitsOf threshold slope trimUp trimDown trimmed vectorBits lowBits highBits interpolated answerWritten frameOf numbersOk stereoOk refusalWrite writeCall writeAll exampleBytes exampleLists exampleSymbols exampleNumbers exampleBoosts exampleCaps exampleWishes leadingZeros exampleFirst exampleRow exampleWritten exampleClosed exampleOut
 computed = record { first = refl; row = refl; allocation = refl; close = refl; fits = refl; intensity = refl; dual = refl }
 
 pub example-sent : ExampleSent

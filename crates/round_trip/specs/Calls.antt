@@ -4,26 +4,21 @@ use Prim.Native.Nat.{ℕ}
 use mathlib.Core.List.{List}
 use lib.IntN.{ℤ}
 use Rattle.entcode.specs.Counts.{toldOf}
+use Rattle.entcode.specs.Said.{Said, answer}
+use Rattle.entcode.specs.Said.Said.{done, refused}
 use Rattle.entcode.specs.Tell.{tellOf, tellFracOf}
 use Rattle.entcode.specs.Sym.{Shape}
 use Rattle.entcode.specs.Sym.Shape.{bit as bitShape, table as tableShape, uint as uniformShape, raw as rawShape}
-use Rattle.entcode.specs.declared.Told.{Told}
 use Rattle.entdec.specs.declared.Reader.{Reader}
-use Rattle.entdec.specs.declared.Answer.{Answer}
-use Rattle.entdec.specs.declared.Answer.the-variants as read
-use Rattle.entdec.specs.Answer.{answer}
+use Rattle.entdec.specs.declared.Read.{Read}
 use Rattle.entdec.specs.Symbols.{readSym}
 use Rattle.entdec.specs.Rule.{readerOk, refusalR}
 use Rattle.entenc.specs.declared.Writer.{Writer}
-use Rattle.entenc.specs.declared.Answer.{Answer as Answered}
-use Rattle.entenc.specs.declared.Answer.the-variants as written
 use Rattle.entenc.specs.Write.{Wr, wr}
 use Rattle.entenc.specs.Answer.{writing}
 use Rattle.entenc.specs.Rule.{writerOk}
-use Rattle.laplace.specs.declared.LapRead.{LapRead}
-use Rattle.laplace.specs.declared.LapRead.the-variants as lapRead
-use Rattle.laplace.specs.declared.LapWrote.{LapWrote}
-use Rattle.laplace.specs.declared.LapWrote.the-variants as lapWritten
+use Rattle.laplace.specs.declared.LapSym.{LapSym}
+use Rattle.laplace.specs.declared.LapDone.{LapDone}
 use Rattle.laplace.specs.Answer as laplaceCalls
 use Rattle.laplace.specs.Model.{codeOf}
 
@@ -68,14 +63,14 @@ pub data Put (A : Type 0) : Type 0 where
   noPut : ℕ → Put A
 
 -- a call that writes its value as it is
-abbrev pub putBy : ℕ → Answered → List ℕ → Put ℕ
-putBy v (written.Next w) bytes = put v (wr w bytes)
-putBy v (written.Refused n) bytes = noPut n
+abbrev pub putBy : ℕ → Said Writer → List ℕ → Put ℕ
+putBy v (done w) bytes = put v (wr w bytes)
+putBy v (refused n) bytes = noPut n
 
 -- a call that may adjust it
-abbrev pub putLap : LapWrote → List ℕ → Put ℤ
-putLap (lapWritten.Next y) bytes = put (y .value) (wr (y .next) bytes)
-putLap (lapWritten.Refused n) bytes = noPut n
+abbrev pub putLap : Said LapDone → List ℕ → Put ℤ
+putLap (done y) bytes = put (y .value) (wr (y .next) bytes)
+putLap (refused n) bytes = noPut n
 
 -- a value written as a symbol of the coder
 abbrev pub putAs : Shape → ℕ → Wr → Put ℕ
@@ -96,13 +91,13 @@ pub data Took (A : Type 0) : Type 0 where
   took : A → Reader → Took A
   noTook : ℕ → Took A
 
-abbrev pub tookBy : Answer → Took ℕ
-tookBy (read.Got y) = took (y .value) (y .next)
-tookBy (read.Refused n) = noTook n
+abbrev pub tookBy : Said Read → Took ℕ
+tookBy (done y) = took (y .value) (y .next)
+tookBy (refused n) = noTook n
 
-abbrev pub tookLap : LapRead → Took ℤ
-tookLap (lapRead.Got y) = took (y .value) (y .next)
-tookLap (lapRead.Refused n) = noTook n
+abbrev pub tookLap : Said LapSym → Took ℤ
+tookLap (done y) = took (y .value) (y .next)
+tookLap (refused n) = noTook n
 
 -- a value read as a symbol of the coder
 abbrev pub tookAs : Shape → List ℕ → Reader → Took ℕ
@@ -118,10 +113,10 @@ readCall (laplace fs decay) s d = tookLap (laplaceCalls.reading fs decay s d)
 
 -- ---- how many bits are used
 
--- what tell and tell_frac answer
+-- what tell and tell_frac say
 pub record Tells : Type 0 where
-  pub bits : Told
-  pub eighths : Told
+  pub bits : Said ℕ
+  pub eighths : Said ℕ
 
 -- of a writer, and of a reader
 abbrev pub tellsW : Writer → Tells

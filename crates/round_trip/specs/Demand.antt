@@ -7,8 +7,8 @@ use mathlib.Core.List.{List}
 use lib.IntN.{ℤ, pos}
 use lib.ListN.{getD, length}
 use Rattle.laws.specs.Lists.{Bytes}
+use Rattle.entcode.specs.Said.Said.{done}
 use Rattle.entdec.specs.declared.Reader.{Reader}
-use Rattle.entdec.specs.declared.Started.the-variants.{At}
 use Rattle.entdec.specs.Answer.{startOf as readerOver}
 use Rattle.entenc.specs.declared.Writer.{Writer}
 use Rattle.entenc.specs.declared.Answer.the-variants.{Next}
@@ -45,7 +45,7 @@ module _ (bytes : List ℕ) (ys : List Symbol) (q : Numbers) (offsets caps : Lis
   pub record Sent : Type 0 where
     -- a new writer over the bytes
     pub first : Writer
-    pub new : writerOver (length bytes) ≡ Next first
+    pub new : writerOver (length bytes) ≡ done first
     -- the symbols were accepted: zs as they count as written, ts what was told after each
     pub row : Wr
     pub zs : List Symbol
@@ -67,7 +67,7 @@ module _ (bytes : List ℕ) (ys : List Symbol) (q : Numbers) (offsets caps : Lis
     pub record Agreed : Type 0 where
       -- a new reader of those bytes, which has the new writer's storage and tells what it told
       pub first : Reader
-      pub new : readerOver (k .packet) ≡ At first
+      pub new : readerOver (k .packet) ≡ done first
       pub storage : first .storage ≡ k .first .sink .storage
       pub begins : tellsR first ≡ tellsW (k .first)
       -- it accepts and reads the same symbols, and tells the same after each
@@ -142,7 +142,7 @@ CodedOnce =
 module _ (bytes : List ℕ) (ys : List Symbol) where
   pub record RowSent : Type 0 where
     pub first : Writer
-    pub new : writerOver (length bytes) ≡ Next first
+    pub new : writerOver (length bytes) ≡ done first
     pub row : Wr
     pub zs : List Symbol
     pub ts : List Tells
@@ -155,7 +155,7 @@ module _ (bytes : List ℕ) (ys : List Symbol) where
   module _ (k : RowSent) where
     pub record RowAgreed : Type 0 where
       pub first : Reader
-      pub new : readerOver (k .packet) ≡ At first
+      pub new : readerOver (k .packet) ≡ done first
       pub storage : first .storage ≡ k .first .sink .storage
       pub begins : tellsR first ≡ tellsW (k .first)
       pub row : Reader

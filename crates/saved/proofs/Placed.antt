@@ -12,6 +12,7 @@ use lib.ListN.{length, getD, set, take}
 use lib.Seq.{take-all}
 use borrow.Author.Tests.{leb-true}
 use Rattle.laws.specs.Lists.{every}
+use Rattle.entcode.specs.Said.{answer, lentAfter}
 use Rattle.entcode.proofs.Refusals.{passed}
 use Rattle.text.specs.Parts.{tabbed}
 use Rattle.text.specs.Written.{decimalOf, Put}
@@ -66,11 +67,11 @@ save-opens n r h =
     (leb-true 390 n (p .two), leb-true (r .next) 4294967295 (p .one), p .three)
 
 pub said-line : (no : ℕ) (line buf : List ℕ) {n : ℕ} {last : List ℕ} → no ≡ 0 → Put 390 buf 0 line n last → after (Line n) last ≡ answerSaved no line buf
-unfolding answerSaved
+unfolding answer lentAfter
 said-line zero line buf h p = rw (p .next, p .bytes, zero-add (length line))
 said-line (suc n) line buf h p = absurd (omega arith)
 
 pub said-refused : (no : ℕ) (line buf : List ℕ) → (no ≡ 0 → ⊥) → after (Refused no) buf ≡ answerSaved no line buf
-unfolding answerSaved
+unfolding answer lentAfter
 said-refused zero line buf h = absurd (h refl)
 said-refused (suc n) line buf h = refl

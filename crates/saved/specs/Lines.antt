@@ -8,6 +8,8 @@ use lib.ListN.{length, drop}
 use lib.Seq.{sets}
 use Rattle.laws.specs.Lists.{every}
 use Rattle.entcode.specs.Refusal.{refusal}
+use Rattle.entcode.specs.Said.{Said, answer, lentAfter}
+use Rattle.entcode.specs.Said.Said.{done, refused}
 use Rattle.text.specs.Parts.{fieldsOf, fieldOf, tabbed}
 use Rattle.text.specs.Numbers.{numberOf}
 use Rattle.text.specs.Written.{decimalOf}
@@ -32,28 +34,27 @@ lineOf r = 69 ∷ tabbed (decimalOf (r .next) ∷ map energyText (r .energies))
 unfoldable pub refusalSave : ℕ → Record → ℕ
 refusalSave n r = refusal (leb 390 n) (leb (r .next) 4294967295) (every finite (r .energies)) 0 true true
 
--- an answer, and the lent bytes after the call
+-- what an answer of saving says
+abbrev pub said : Saved → Said ℕ
+said (saved.Line n) = done n
+said (saved.Refused n) = refused n
+
+-- what is said, and the lent bytes after the call
 pub record After : Type 0 where
-  pub said : Saved
+  pub said : Said ℕ
   pub bytes : List ℕ
 
 -- both together
 abbrev pub after : Saved → List ℕ → After
-after a b = record { said = a; bytes = b }
+after a b = record { said = said a; bytes = b }
 
 -- number 0: the line stands at the front, and its length is told; any other: that refusal, and the bytes as they were
-unfoldable pub answerSaved : ℕ → List ℕ → List ℕ → After
-answerSaved zero line buf = after (saved.Line (length line)) (sets buf 0 line)
-answerSaved (suc n) line buf = after (saved.Refused (suc n)) buf
+abbrev pub answerSaved : ℕ → List ℕ → List ℕ → After
+answerSaved n line buf = record { said = answer n (length line); bytes = lentAfter n (sets buf 0 line) buf }
 
 -- a checked save
 abbrev pub saving : Record → List ℕ → After
 saving r buf = answerSaved (refusalSave (length buf) r) (lineOf r) buf
-
--- document 01's number of an answer, 0 where it is no refusal
-abbrev pub numberSaved : Saved → ℕ
-numberSaved (saved.Line n) = 0
-numberSaved (saved.Refused n) = n
 
 -- ---- restoring
 

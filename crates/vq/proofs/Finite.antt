@@ -18,6 +18,8 @@ use Rattle.laws.specs.Signs.{clip}
 use Rattle.laws.specs.Lists.{every}
 use Rattle.laws.proofs.Tests.{or-parts}
 use Rattle.laws.proofs.Within.{Within, within-finite, Whole, round-within, mul-within}
+use Rattle.entcode.specs.Said.{number}
+use Rattle.entcode.proofs.Said.{number-answer}
 use Rattle.entdec.specs.declared.Reader.{Reader}
 use Rattle.entdec.proofs.Accepted.{Open, opened}
 use Rattle.cwrs.specs.Word.{pulses, energy}
@@ -25,10 +27,10 @@ use Rattle.cwrs.specs.Answer.{readWord}
 use Rattle.cwrs.proofs.Words.{pulses-cons}
 use Rattle.vq.specs.Root.{rootOf}
 use Rattle.vq.specs.Shape.{one, factorOf, scaled, shapeOf}
-use Rattle.vq.specs.Answer.{Asked, gainOk, lengthOk, numbersOk, ownShape, refusalShape, readShapeOf, Formed, unquantised, numberOf}
+use Rattle.vq.specs.Answer.{Asked, gainOk, lengthOk, numbersOk, ownShape, refusalShape, readShapeOf, Formed, unquantised}
 use Rattle.vq.proofs.Quotient.{num-some, div-is}
 use Rattle.vq.proofs.Nearer.{root-nearest, root-least}
-use Rattle.vq.proofs.Refusing.{domain, answer-got, number-of}
+use Rattle.vq.proofs.Refusing.{domain, answer-got}
 use Rattle.vq.proofs.Vectors.{Vector, read-vector}
 
 -- ---- the gain
@@ -98,14 +100,14 @@ unfolding refusalShape
 accepted q places s d e = opened _ _ _ _ _ _ e
 
 -- whatever the call is asked, over any packet and any lent shape
-pub accepted-finite : (q : Asked) (s : List ℕ) (d : Reader) (x : List Float) → numberOf (unquantised q s d x .said) ≡ 0
+pub accepted-finite : (q : Asked) (s : List ℕ) (d : Reader) (x : List Float) → number (unquantised q s d x .said) ≡ 0
     → every finite (unquantised q s d x .shape) ≡ true
 accepted-finite q s d x e =
     let n = clip (q .n) in
     let k = clip (q .k) in
     let r = readShapeOf n k (clip (q .b)) s d in
     let v = shapeOf (q .gain) (readWord n k s d) in
-    let z : refusalShape q (length x) s d ≡ 0 = sym (number-of (refusalShape q (length x) s d) r v x) ∙ e in
+    let z : refusalShape q (length x) s d ≡ 0 = sym (number-answer (refusalShape q (length x) s d) r) ∙ e in
     let o = accepted q (length x) s d z in
     let t = domain (q .n) (q .k) (q .spread) (q .b) (o .known) in
     ap (λ (f : Formed). every finite (f .shape)) (sym (answer-got (refusalShape q (length x) s d) r v x z))

@@ -4,6 +4,7 @@ pub mod Spacing
 pub mod Nearer
 pub mod Only
 pub mod Refusing
+pub mod Said
 pub mod Vectors
 pub mod Masks
 pub mod Finite

@@ -12,13 +12,14 @@ use borrow.Author.Tests.{lt-ltb, le-ltb, eqb-true}
 use Rattle.laws.specs.Signs.{clip, inRange}
 use Rattle.laws.proofs.Tests.{by-le}
 use Rattle.laws.proofs.Signs.{CountIn, range-count}
+use Rattle.entcode.specs.Said.{answer, lentAfter}
 use Rattle.entdec.specs.declared.Reader.{Reader}
 use Rattle.entdec.specs.Rule.{readerOk, readRefusal}
 use Rattle.cwrs_counts.specs.Count.{Vn}
 use Rattle.cwrs.proofs.Refusing.{late}
 use Rattle.vq.specs.declared.ReadShape.{ReadShape}
 use Rattle.vq.specs.declared.Shaped.the-variants.{Got, Refused}
-use Rattle.vq.specs.Answer.{lengthOk, numbersOk, ownShape, formed, answer, numberOf}
+use Rattle.vq.specs.Answer.{lengthOk, numbersOk, ownShape, formed, answerR}
 
 -- ---- the domain
 
@@ -82,16 +83,11 @@ late-own m d lengths numbers lists {own} {p} e = late (eqb (d .storage) m) lengt
 
 -- ---- the answers by the number
 
-pub answer-got : (m : ℕ) (r : ReadShape) (v x : List Float) → m ≡ 0 → formed (Got r) v ≡ answer m r v x
-unfolding answer
+pub answer-got : (m : ℕ) (r : ReadShape) (v x : List Float) → m ≡ 0 → formed (Got r) v ≡ answerR m r v x
+unfolding answer lentAfter
 answer-got m r v x e = rw e
 
-pub answer-refused : (m : ℕ) (r : ReadShape) (v x : List Float) → (m ≡ 0 → ⊥) → formed (Refused m) x ≡ answer m r v x
-unfolding answer
+pub answer-refused : (m : ℕ) (r : ReadShape) (v x : List Float) → (m ≡ 0 → ⊥) → formed (Refused m) x ≡ answerR m r v x
+unfolding answer lentAfter
 answer-refused zero r v x h = absurd (h refl)
 answer-refused (suc m) r v x h = refl
-
-pub number-of : (m : ℕ) (r : ReadShape) (v x : List Float) → numberOf (answer m r v x .said) ≡ m
-unfolding answer
-number-of zero r v x = refl
-number-of (suc m) r v x = refl

@@ -1,5 +1,5 @@
--- What the call is asked, when it is refused and what it answers, by document 01's number and the values, and what the lent shape then holds.
-use Prim.Native.Nat.{ℕ, zero, suc, _*_, _%_}
+-- What the call is asked, when it is refused and what it says, by document 01's number and the values, and what the lent shape then holds.
+use Prim.Native.Nat.{ℕ, _*_, _%_}
 use mathlib.Core.Bool.{Bool, cond, _&&_}
 use mathlib.Core.List.{List}
 use lib.Dec.{ltb, eqb}
@@ -8,6 +8,8 @@ use lib.ListN.{length}
 use lib.Signed.{leZ}
 use lib.Ieee.{Float, neg, le}
 use Rattle.laws.specs.Signs.{clip, inRange}
+use Rattle.entcode.specs.Said.{Said, answer, lentAfter}
+use Rattle.entcode.specs.Said.Said.{done, refused}
 use Rattle.entdec.specs.declared.Reader.{Reader}
 use Rattle.entdec.specs.Rule.{readRefusal}
 use Rattle.cwrs_counts.specs.Count.{Vn}
@@ -63,26 +65,25 @@ refusalShape q places s d =
 abbrev pub readShapeOf : ℕ → ℕ → ℕ → List ℕ → Reader → ReadShape
 readShapeOf n k b s d = record { mask = collapse b (readWord n k s d); next = readIndex n k s d .next }
 
--- an answer, and the lent shape after the call
+-- what an answer says
+abbrev pub said : Shaped → Said ReadShape
+said (Got r) = done r
+said (Refused m) = refused m
+
+-- what is said, and the lent shape after the call
 pub record Formed : Type 0 where
-  pub said : Shaped
+  pub said : Said ReadShape
   pub shape : List Float
 
 abbrev pub formed : Shaped → List Float → Formed
-formed r x = record { said = r; shape = x }
+formed r x = record { said = said r; shape = x }
 
 -- number 0: what was read, with its shape; any other: that refusal, and the shape as it was
-unfoldable pub answer : ℕ → ReadShape → List Float → List Float → Formed
-answer zero r v x = formed (Got r) v
-answer (suc m) r v x = formed (Refused (suc m)) x
+abbrev pub answerR : ℕ → ReadShape → List Float → List Float → Formed
+answerR m r v x = record { said = answer m r; shape = lentAfter m v x }
 
 -- the whole call over the packet s, the reader d and the lent shape x
 abbrev pub unquantised : Asked → List ℕ → Reader → List Float → Formed
 unquantised q s d x =
-    answer (refusalShape q (length x) s d) (readShapeOf (clip (q .n)) (clip (q .k)) (clip (q .b)) s d)
+    answerR (refusalShape q (length x) s d) (readShapeOf (clip (q .n)) (clip (q .k)) (clip (q .b)) s d)
     (shapeOf (q .gain) (readWord (clip (q .n)) (clip (q .k)) s d)) x
-
--- document 01's number of an answer, 0 where it is no refusal
-abbrev pub numberOf : Shaped → ℕ
-numberOf (Got r) = 0
-numberOf (Refused m) = m

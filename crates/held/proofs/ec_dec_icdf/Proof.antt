@@ -43,7 +43,7 @@ use denote.Triple.Spec.{tripleOf}
 use denote.Triple.Walked.{says, Stays, stay-ref, stay-none, stay-none-slice, walkOf, goes-none, goes-none-slice, goes-ref, ends-at}
 use denote.Exit.{yes}
 use Rattle.entcode.specs.Sym.Shape.{table}
-use Rattle.held.specs.Held.{moved, readHeld}
+use Rattle.held.specs.Held.{Stepped, moved, readHeld, saidStep}
 use Rattle.held.proofs.Closing.{asks-no-more, met-by, told}
 use Rattle.held.proofs.Holding.{num-val, packet-val, Packet, hidden, δ, R, D, L, mach, Own, both-of, with-numbers}
 use Rattle.held.specs.declared.EcDec.{EcDec}
@@ -95,7 +95,7 @@ module _ {M : Type 1} (𝓤 : URA M) (H : Heap 𝓤) (A : Atoms 𝓤) (W : Given
   abbrev Post : Val → SProp 𝓤
   Post = walkOf 𝓤 H A f.ended stayed (f.clauses 𝓤 H A at-mem run) .post (((κ, (κ₁, (κ₂, tt))), (q, (q₁, (q₂, tt))), bounds, x, (vptr b o ∷ [], vals)), tt)
 
-  abbrev found : Step
+  abbrev found : Stepped ℕ
   found = readHeld (table (t .now) ftb) h
 
   -- the call: what it is passed, and what it asks
@@ -113,12 +113,12 @@ module _ {M : Type 1} (𝓤 : URA M) (H : Heap 𝓤) (A : Atoms 𝓤) (W : Given
       -- [the others'; the others'; what the reader owns; what the numbers own; what the packet owns; the tokens]
       move ! (4 ∷ 0 ∷ []) $ fjoin ! $ move ! (3 ∷ 0 ∷ []) $ fjoin ! $ move ! (3 ∷ 0 ∷ []) $ use2 W (raw (Callee 𝓤 H A at-mem run .pre to)) (asks-no-more 𝓤 _) $ frame ! $ move ! (1 ∷ 0 ∷ []) $ done !
 
-  exits : (r : Step) → r ≡ found → Is B.the-row (r .answer) (EL.val B.the-type B′.the-laws (r .answer) ∷ [])
+  exits : (r : Step) → saidStep r ≡ found → Is B.the-row (r .answer) (EL.val B.the-type B′.the-laws (r .answer) ∷ [])
       → ent 𝓤 (⋆ 𝓤 H A (‵ (fobs γ (R 1 κ₁ .coded .code (moved h (r .next)))) ∷ ‵ (fbor κ (Body (mem (R 1 κ₁)) b o γ)) ∷ ‵ (flft κ q) ∷ (‵ (flft κ₁ q₁) ⊛ ‵ (flft κ₂ q₂) ⊛ ‵ ftrue) ∷ ‵ Kept ∷ [])) (Post (EL.val B.the-type B′.the-laws (r .answer)))
   exits r e is =
       qed W (‵ (fobs γ (R 1 κ₁ .coded .code (moved h (r .next)))) ∷ ‵ (fbor κ (Body (mem (R 1 κ₁)) b o γ)) ∷ ‵ (flft κ q) ∷ (‵ (flft κ₁ q₁) ⊛ ‵ (flft κ₂ q₂) ⊛ ‵ ftrue) ∷ ‵ Kept ∷ []) ∵
       suffices ! _ (ends-at 𝓤 H A f.ended stayed (f.clauses 𝓤 H A at-mem run) W (((κ, (κ₁, (κ₂, tt))), (q, (q₁, (q₂, tt))), bounds, x, (vptr b o ∷ [], vals)), tt) (EL.val B.the-type B′.the-laws (r .answer)) (r .answer) (moved h (r .next), (tt, (tt, tt))) (tt, (tt, (tt, tt)))) $
-      says ! (λ i. e i .answer, λ i. moved h (e i .next)) $ move ! (2 ∷ 3 ∷ []) $ join ! $ frame ! $
+      says ! (λ i. e i .said, λ i. moved h (e i .next)) $ move ! (2 ∷ 3 ∷ []) $ join ! $ frame ! $
       feqI ! (List Val) (vptr b o ∷ []) (vptr b o ∷ []) refl $ fjoin3 ! $ fjoin ! $ frame ! $ owned ! B.the-row (Is B.the-row) (EL.makes B.the-type B′.the-plain 𝓤 H A) (r .answer) _ is $ done !
 
   module _ (C : Calls 𝓤 H) (Λ : Loops 𝓤 H) (fm : FmC 𝓤 H (W .laws) C) (known : Triple 𝓤 (C #held·moves·icdf) (Callee 𝓤 H A at-mem run)) where
@@ -138,7 +138,7 @@ module _ {M : Type 1} (𝓤 : URA M) (H : Heap 𝓤) (A : Atoms 𝓤) (W : Given
         move ! (1 ∷ 6 ∷ 5 ∷ []) $ use3 W (raw (Callee 𝓤 H A at-mem run .pre to) ⊛ ‵ (Own 1 κ₁ h) ⊛ ‵ Kept) apart $ split3 ! $
         calls-at ! fm (Callee 𝓤 H A at-mem run) known to (and-then ! (load ! (from ! (stop !)) (look ! 9 refl)) (and-then ! (load ! (from ! (stop !)) (look ! 7 refl)) (and-then ! (load ! (from ! (stop !)) (look ! 15 refl)) (and-then ! (load ! (from ! (stop !)) (look ! 13 refl)) (no-more !))))) (λ u.
         use1 W (later (some (λ (r : Step). ((‵ (flft κ₁ q₁) ⊛ ‵ (flft κ₂ q₂) ⊛ ‵ ftrue) ⊛ ‵ (S.the-row .own r (u ∷ []))) ⊛ raw (ensured 𝓤 H A g.ended (g.clauses 𝓤 H A at-mem run) (κ₁, (κ₂, tt)) (h .num, (h .buf, (t, (ftb, tt)))) tt r)))) (id⊢ 𝓤 _) $ await ! tt $ pick ! (λ r.
-        split ! $ move ! (1 ∷ []) $ use1 W (raw (fact 𝓤 (r ≡ found))) (told 𝓤 H A g.ended (κ₁, (κ₂, tt)) (h .num, (h .buf, (t, (ftb, tt)))) (r ≡ found)) $ heard ! (r ≡ found) (λ e. split ! $ move ! (1 ∷ []) $
+        split ! $ move ! (1 ∷ []) $ use1 W (raw (fact 𝓤 (saidStep r ≡ found))) (told 𝓤 H A g.ended (κ₁, (κ₂, tt)) (h .num, (h .buf, (t, (ftb, tt)))) (saidStep r ≡ found)) $ heard ! (saidStep r ≡ found) (λ e. split ! $ move ! (1 ∷ []) $
         facts ! S.the-row (Is S.the-row) (shows 𝓤 H A S.the-row) r (u ∷ []) (λ is.
         -- [the tokens; what the reader owns; the others'; the reader's cell; the open borrow; obs; auth; _6; …; _1; …; room for _0; …]
         land ! (from ! (stop !)) (init ! 11 refl (LL.lawful S.the-type S′.the-laws 𝓤 H A W .typed r _ is .0)) $ rewrite ! 11 (λ (w : Val). ‵ (fat fullShare S′.mir l4 0 w)) (ap only (LL.tells S.the-type S′.the-laws r (u ∷ []) is)) refl $

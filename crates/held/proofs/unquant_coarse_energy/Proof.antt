@@ -44,7 +44,7 @@ use denote.Triple.Entry.{Vals, onEntry}
 use denote.Triple.Spec.{tripleOf}
 use denote.Triple.Walked.{says, Stays, stay-ref, stay-none, gave-slice, walkOf, goes-none, goes-gave-slice, goes-ref, ends-at}
 use denote.Exit.{yes}
-use Rattle.held.specs.Held.{CoarseAfter, coarseAfter, coarseHeld, moved}
+use Rattle.held.specs.Held.{After, coarseAfter, coarseHeld, moved}
 use Rattle.held.proofs.Closing.{asks-no-more, met-by}
 use Rattle.held.proofs.Holding.{num-val, packet-val, Packet, hidden, δ, R, D, L, mach, Own, both-of, with-numbers}
 use Rattle.held.proofs.CoarseLists.{vals, Rest, Kept, Lists, Finals, Ends, parted, whole-again, ended}
@@ -94,7 +94,7 @@ module _ {M : Type 1} (𝓤 : URA M) (H : Heap 𝓤) (A : Atoms 𝓤) (W : Given
   abbrev Post : Val → SProp 𝓤
   Post = walkOf 𝓤 H A f.ended stayed (f.clauses 𝓤 H A at-mem run) .post (((κ, (κ₁, (κ₂, tt))), (q, (q₁, (q₂, tt))), bounds, x, (vptr b o ∷ [], (vals 2 κs y))), tt)
 
-  abbrev found : CoarseAfter
+  abbrev found : After Unit (List Float)
   found = coarseHeld c lm start end intra (energies .now) h
 
   -- the call: what it is passed, and what it asks
@@ -117,7 +117,7 @@ module _ {M : Type 1} (𝓤 : URA M) (H : Heap 𝓤) (A : Atoms 𝓤) (W : Given
   exits r z₀ e l₀ is =
       qed W (‵ (fobs γ (R 1 κ₁ .coded .code (moved h (r .next)))) ∷ ‵ (fbor κ (Body (mem (R 1 κ₁)) b o γ)) ∷ ‵ (flft κ q) ∷ (‵ (flft κ₁ q₁) ⊛ ‵ (flft κ₂ q₂) ⊛ ‵ ftrue) ∷ ‵ (Kept 2 κs y) ∷ ‵ ((Finals 2 κs y) z₀) ∷ []) ∵
       suffices ! _ (ends-at 𝓤 H A f.ended stayed (f.clauses 𝓤 H A at-mem run) W (((κ, (κ₁, (κ₂, tt))), (q, (q₁, (q₂, tt))), bounds, x, (vptr b o ∷ [], (vals 2 κs y))), tt) (EL.val B.the-type B′.the-laws (r .answer)) (r .answer) (moved h (r .next), (z₀, (tt, (tt, (tt, (tt, (tt, tt))))))) (tt, (l₀, (tt, (tt, (tt, (tt, (tt, tt)))))))) $
-      says ! (λ i. e i .step .answer, λ i. moved h (e i .step .next), λ i. e i .lent) $ move ! (4 ∷ 5 ∷ []) $ use2 W (‵ ((Ends 2 κs y) z₀)) ((ended 2 κs y 𝓤 H A W) z₀) $ move ! (1 ∷ 2 ∷ 3 ∷ 4 ∷ 0 ∷ []) $ move ! (2 ∷ 3 ∷ []) $ join ! $ frame ! $
+      says ! (λ i. e i .step .said, λ i. moved h (e i .step .next), λ i. e i .lent) $ move ! (4 ∷ 5 ∷ []) $ use2 W (‵ ((Ends 2 κs y) z₀)) ((ended 2 κs y 𝓤 H A W) z₀) $ move ! (1 ∷ 2 ∷ 3 ∷ 4 ∷ 0 ∷ []) $ move ! (2 ∷ 3 ∷ []) $ join ! $ frame ! $
       feqI ! (List Val) (vptr b o ∷ []) (vptr b o ∷ []) refl $ fjoin3 ! $ fjoin ! $ frame ! $ owned ! B.the-row (Is B.the-row) (EL.makes B.the-type B′.the-plain 𝓤 H A) (r .answer) _ is $ done !
 
   module _ (C : Calls 𝓤 H) (Λ : Loops 𝓤 H) (fm : FmC 𝓤 H (W .laws) C) (known : Triple 𝓤 (C #held·moves·coarse) (Callee 𝓤 H A at-mem run)) where

@@ -46,7 +46,7 @@ use denote.Triple.Table.{entered, cited}
 use denote.Triple.Walked.{says, Stays, stay-ref, stay-none, stay-none-slice, walkOf, goes-none, goes-none-slice, goes-ref, Walks, ends-at, walked, walk-meets}
 use denote.Exit.{yes}
 use Rattle.stream.specs.Frame.{call, framed}
-use Rattle.lent.specs.Lent.{stepOf}
+use Rattle.lent.specs.Lent.{Stepped, saidStep, stepOf}
 use Rattle.lent.proofs.Kept.{refused-keeps}
 use Rattle.stream.specs.declared.Record.{Record}
 use Rattle.lent.specs.declared.AppliedStep.{AppliedStep}
@@ -109,7 +109,7 @@ module _ {M : Type 1} (𝓤 : URA M) (H : Heap 𝓤) (A : Atoms 𝓤) (W : Given
   abbrev Post : Val → SProp 𝓤
   Post = walkOf 𝓤 H A f.ended stayed (f.clauses 𝓤 H A at-mem run) .post (((κ, (κ₁, tt)), (q, (q₁, tt)), bounds, x, (vptr b o ∷ [], vals)), tt)
 
-  abbrev found : AppliedStep
+  abbrev found : Stepped
   found = stepOf (framed h (call d (s .now) number c lm start end intra))
 
   -- the call: what it is passed, what it asks, and what it says
@@ -127,15 +127,15 @@ module _ {M : Type 1} (𝓤 : URA M) (H : Heap 𝓤) (A : Atoms 𝓤) (W : Given
       qed W (‵ Rest ∷ (‵ (flft κ₁ q₁) ⊛ ‵ ftrue) ∷ []) ∵ use1 W (‵ Kept ⊛ ‵ Kept) (twices 𝓤 H A W (N.the-row ∷ ShrSlice (named 1) κ₁ u8 ∷ u64 ∷ i32 ∷ i32 ∷ i32 ∷ i32 ∷ i32 ∷ []) (LL.copy N.the-type N′.the-copy 𝓤 H A W, (shr-slice-copy 𝓤 H A W (named 1) κ₁ u8, (uint-copy 𝓤 H A W w64, (sint-copy 𝓤 H A W w32, (sint-copy 𝓤 H A W w32, (sint-copy 𝓤 H A W w32, (sint-copy 𝓤 H A W w32, (sint-copy 𝓤 H A W w32, tt)))))))) (d, (s, (number, (c, (lm, (start, (end, (intra, tt)))))))) vals) $ split ! $
       owned ! T.the-row (Is T.the-row) (LL.makes T.the-type T′.the-plain 𝓤 H A) h _ was $ fjoin ! $ move ! (2 ∷ 0 ∷ []) $ use2 W (raw (Callee 𝓤 H A at-mem run .pre to)) asked $ frame ! $ done !
 
-  said : (r : AppliedStep) → ent 𝓤 (ensured 𝓤 H A g.ended (g.clauses 𝓤 H A at-mem run) (κ₁, tt) (h, (d, (s, (number, (c, (lm, (start, (end, (intra, tt))))))))) tt r) (fact 𝓤 (r ≡ found))
-  said r = exE 𝓤 _ (λ ws. snd∗ 𝓤 (sem 𝓤 H A (lasts g.ended (κ₁, tt) (h, (d, (s, (number, (c, (lm, (start, (end, (intra, tt))))))))) ws)) (fact 𝓤 (r ≡ found)))
+  said : (r : AppliedStep) → ent 𝓤 (ensured 𝓤 H A g.ended (g.clauses 𝓤 H A at-mem run) (κ₁, tt) (h, (d, (s, (number, (c, (lm, (start, (end, (intra, tt))))))))) tt r) (fact 𝓤 (saidStep r ≡ found))
+  said r = exE 𝓤 _ (λ ws. snd∗ 𝓤 (sem 𝓤 H A (lasts g.ended (κ₁, tt) (h, (d, (s, (number, (c, (lm, (start, (end, (intra, tt))))))))) ws)) (fact 𝓤 (saidStep r ≡ found)))
 
-  exits : (r : AppliedStep) → r ≡ found → Is B.the-row (r .answer) (EL.val B.the-type B′.the-laws (r .answer) ∷ [])
+  exits : (r : AppliedStep) → saidStep r ≡ found → Is B.the-row (r .answer) (EL.val B.the-type B′.the-laws (r .answer) ∷ [])
       → ent 𝓤 (⋆ 𝓤 H A (‵ (fobs γ (T.the-row .coded .code (r .rec))) ∷ ‵ (fbor κ (Body (mem T.the-row) b o γ)) ∷ ‵ (flft κ q) ∷ (‵ (flft κ₁ q₁) ⊛ ‵ ftrue) ∷ ‵ Kept ∷ [])) (Post (EL.val B.the-type B′.the-laws (r .answer)))
   exits r e is =
       qed W (‵ (fobs γ (T.the-row .coded .code (r .rec))) ∷ ‵ (fbor κ (Body (mem T.the-row) b o γ)) ∷ ‵ (flft κ q) ∷ (‵ (flft κ₁ q₁) ⊛ ‵ ftrue) ∷ ‵ Kept ∷ []) ∵
       suffices ! _ (ends-at 𝓤 H A f.ended stayed (f.clauses 𝓤 H A at-mem run) W (((κ, (κ₁, tt)), (q, (q₁, tt)), bounds, x, (vptr b o ∷ [], vals)), tt) (EL.val B.the-type B′.the-laws (r .answer)) (r .answer) (r .rec, (tt, (tt, (tt, (tt, (tt, (tt, (tt, (tt, tt))))))))) (tt, (tt, (tt, (tt, (tt, (tt, (tt, (tt, (tt, tt)))))))))) $
-      says ! (λ i. e i .answer, λ i. e i .rec, refused-keeps h (call d (s .now) number c lm start end intra) r e) $ move ! (2 ∷ 3 ∷ []) $ join ! $ frame ! $
+      says ! (λ i. e i .said, λ i. e i .rec, refused-keeps h (call d (s .now) number c lm start end intra) r e) $ move ! (2 ∷ 3 ∷ []) $ join ! $ frame ! $
       feqI ! (List Val) (vptr b o ∷ []) (vptr b o ∷ []) refl $ fjoin3 ! $ fjoin ! $ frame ! $ owned ! B.the-row (Is B.the-row) (EL.makes B.the-type B′.the-plain 𝓤 H A) (r .answer) _ is $ done !
 
   module _ (C : Calls 𝓤 H) (Λ : Loops 𝓤 H) (fm : FmC 𝓤 H (W .laws) C) (known : Triple 𝓤 (C #lent·moves·frame) (Callee 𝓤 H A at-mem run)) where
@@ -153,7 +153,7 @@ module _ {M : Type 1} (𝓤 : URA M) (H : Heap 𝓤) (A : Atoms 𝓤) (W : Given
         move ! (5 ∷ 4 ∷ []) $ use2 W (raw (Callee 𝓤 H A at-mem run .pre to) ⊛ ‵ Kept) (apart was) $ split ! $
         calls-at ! fm (Callee 𝓤 H A at-mem run) known to (and-then ! (load ! (from ! (stop !)) (look ! 6 refl)) (and-then ! (load ! (from ! (stop !)) (look ! 24 refl)) (and-then ! (load ! (from ! (stop !)) (look ! 22 refl)) (and-then ! (load ! (from ! (stop !)) (look ! 20 refl)) (and-then ! (load ! (from ! (stop !)) (look ! 18 refl)) (and-then ! (load ! (from ! (stop !)) (look ! 16 refl)) (and-then ! (load ! (from ! (stop !)) (look ! 14 refl)) (and-then ! (load ! (from ! (stop !)) (look ! 12 refl)) (and-then ! (load ! (from ! (stop !)) (look ! 10 refl)) (no-more !)))))))))) (λ u.
         use1 W (later (some (λ (r : AppliedStep). ((‵ (flft κ₁ q₁) ⊛ ‵ ftrue) ⊛ ‵ (S.the-row .own r (u ∷ []))) ⊛ raw (ensured 𝓤 H A g.ended (g.clauses 𝓤 H A at-mem run) (κ₁, tt) (h, (d, (s, (number, (c, (lm, (start, (end, (intra, tt))))))))) tt r)))) (id⊢ 𝓤 _) $ await ! tt $ pick ! (λ r.
-        split ! $ move ! (1 ∷ []) $ use1 W (raw (fact 𝓤 (r ≡ found))) (said r) $ heard ! (r ≡ found) (λ e. split ! $ move ! (1 ∷ []) $
+        split ! $ move ! (1 ∷ []) $ use1 W (raw (fact 𝓤 (saidStep r ≡ found))) (said r) $ heard ! (saidStep r ≡ found) (λ e. split ! $ move ! (1 ∷ []) $
         facts ! S.the-row (Is S.the-row) (shows 𝓤 H A S.the-row) r (u ∷ []) (λ is.
         -- [the tokens; the others'; the record's cell; the open borrow; obs; auth; _11; …; _1; …; room for _0; …]
         land ! (from ! (stop !)) (init ! 8 refl (LL.lawful S.the-type S′.the-laws 𝓤 H A W .typed r _ is .0)) $ rewrite ! 8 (λ (w : Val). ‵ (fat fullShare S′.mir l10 0 w)) (ap only (LL.tells S.the-type S′.the-laws r (u ∷ []) is)) refl $

@@ -1,13 +1,24 @@
 -- `celt_compute_allocation_read`: the lengths, the call, and what is left of it. Assumes nothing.
+use mathlib.Core.Path.{_≡_}
+use mathlib.Core.Bool.{true, _&&_}
 use lib.ListN.{length}
+use borrow.Author.Needs.{needs}
+use Rattle.celt_state.specs.State.{isStored, isLong}
 use Rattle.rate.specs.Question.{lists}
-use Rattle.celt_answer.proofs.Exports.{Both, both, wrong-lengths, right-lengths}
+use Rattle.celt_answer.proofs.Exports.{Both, stored-both, wrong-lengths, right-lengths}
 use Rattle.celt.proofs.Bands.{numbers-back, bands-read}
 use Rattle.celt.proofs.allocation.celt_compute_allocation_read.Statement.{statement}
 use Rattle.celt.proofs.allocation.celt_compute_allocation_read.Tie as tie
 
-lengths : (c : tie.Then1) → let a = c .before .before .args in Both (length (a .state .now)) 12 (length (a .shown .now)) 4
-lengths c = both _ _ _ _ (c .if1 .taken)
+-- the tests of the guard
+tested : (c : tie.Then1) → let a = c .before .before .before .before .args in (isStored (a .state .now) && isLong 4 (a .shown .now)) ≡ true
+tested c = rw (c .before .is-stored .ensures) at (c .if1 .taken)
+
+lengths : (c : tie.Then1) → let a = c .before .before .before .before .args in Both (length (a .state .now)) 12 (length (a .shown .now)) 4
+lengths c = let a = c .before .before .before .before .args in stored-both (a .state .now) (a .shown .now) 4 (tested c)
+
+is-stored-requires : tie.Need-is-stored-requires
+is-stored-requires c κs = tt
 
 load-reader-requires : tie.Need-load-reader-requires
 load-reader-requires c κs = lengths (c .before) .one
@@ -41,20 +52,24 @@ returns c =
     let k = g .before .before .before .before .before .before in
     let d = k .before .before .before .before in
     let t = d .before .before in
-    let p = t .before .before in
+    let p = t .before .before .before .before in
     let a = p .args in
     let f = p .fits in
     let e = k .clt-compute-allocation-read .last in
-    right-lengths _ _ (t .if1 .taken)
+    right-lengths _ _ (tested t)
     (bands-read {p = lists (e .1 .1 .1 .1 .1 .1 .1 .1 .1 .1 .0) (e .1 .1 .1 .1 .1 .1 .1 .1 .1 .1 .1 .0) (e .1 .1 .1 .1 .1 .1 .1 .1 .1 .1 .1 .1 .0)} (a .state .now, a .shown .now) (a .offsets .now) (a .caps .now) (a .s .now) (lists (a .pulses .now) (a .fine .now) (a .priorities .now)) (numbers-back (f .c) (f .lm) (f .start) (f .end) (f .trim) (f .total)) (d .load-reader .ensures) (k .clt-compute-allocation-read .ensures) (g .leave-alloc-read .ensures))
 
+same-length-6 : tie.Need-same-length-6
+same-length-6 c = search needs
+
 returns-2 : tie.Need-returns-2
-returns-2 c = wrong-lengths _ _ (c .if1 .left)
+returns-2 c = wrong-lengths _ _ (rw (c .before .is-stored .ensures) at (c .if1 .left))
 
 pub celt-compute-allocation-read-spec : {M : Type 1} → statement M
 celt-compute-allocation-read-spec =
     tie.close
     (tie.spec
+    is-stored-requires
     load-reader-requires
     clt-compute-allocation-read-requires
     leave-alloc-read-requires
@@ -64,4 +79,5 @@ celt-compute-allocation-read-spec =
     same-length-4
     same-length-5
     returns
+    same-length-6
     returns-2)

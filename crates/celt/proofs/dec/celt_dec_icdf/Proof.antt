@@ -1,11 +1,22 @@
 -- `celt_dec_icdf`: the lengths, the call, and what is left of it. Assumes nothing.
+use mathlib.Core.Path.{_≡_}
+use mathlib.Core.Bool.{true, _&&_}
 use lib.ListN.{length}
-use Rattle.celt_answer.proofs.Exports.{Both, both, wrong-lengths, right-lengths}
+use borrow.Author.Needs.{needs}
+use Rattle.celt_state.specs.State.{isStored, isLong}
+use Rattle.celt_answer.proofs.Exports.{Both, stored-both, wrong-lengths, right-lengths}
 use Rattle.celt.proofs.dec.celt_dec_icdf.Statement.{statement}
 use Rattle.celt.proofs.dec.celt_dec_icdf.Tie as tie
 
-lengths : (c : tie.Then1) → let a = c .before .before .before .before .args in Both (length (a .state .now)) 12 (length (a .value .now)) 1
-lengths c = both _ _ _ _ (c .if1 .taken)
+-- the tests of the guard
+tested : (c : tie.Then1) → let a = c .before .before .before .before .before .before .args in (isStored (a .state .now) && isLong 1 (a .value .now)) ≡ true
+tested c = rw (c .before .is-stored .ensures) at (c .if1 .taken)
+
+lengths : (c : tie.Then1) → let a = c .before .before .before .before .before .before .args in Both (length (a .state .now)) 12 (length (a .value .now)) 1
+lengths c = let a = c .before .before .before .before .before .before .args in stored-both (a .state .now) (a .value .now) 1 (tested c)
+
+is-stored-requires : tie.Need-is-stored-requires
+is-stored-requires c κs = tt
 
 load-reader-requires : tie.Need-load-reader-requires
 load-reader-requires c κs = lengths (c .before) .one
@@ -26,20 +37,25 @@ same-length-2 c = c .before .before .before .leave-read .kept .1 .1 .0
 
 returns : tie.Need-returns
 returns c =
-    right-lengths _ _ (c .before .before .before .before .before .before .before .before .before .if1 .taken)
+    right-lengths _ _ (tested (c .before .before .before .before .before .before .before .before .before))
     (rw (c .before .before .before .before .before .before .icdf .ensures, c .before .before .before .before .before .before .before .load-reader .ensures) at (c .before .before .before .leave-read .ensures))
 
+same-length-3 : tie.Need-same-length-3
+same-length-3 c = search needs
+
 returns-2 : tie.Need-returns-2
-returns-2 c = wrong-lengths _ _ (c .if1 .left)
+returns-2 c = wrong-lengths _ _ (rw (c .before .is-stored .ensures) at (c .if1 .left))
 
 pub celt-dec-icdf-spec : {M : Type 1} → statement M
 celt-dec-icdf-spec =
     tie.close
     (tie.spec
+    is-stored-requires
     load-reader-requires
     icdf-requires
     leave-read-requires
     same-length
     same-length-2
     returns
+    same-length-3
     returns-2)

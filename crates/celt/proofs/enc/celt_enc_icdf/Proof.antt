@@ -1,18 +1,32 @@
 -- `celt_enc_icdf`: the lengths, the call, and what is left of it. Assumes nothing.
-use borrow.Author.Tests.{eq-eqb, ne-eqb}
+use mathlib.Core.Path.{_≡_, sym, _∙_}
+use mathlib.Core.Bool.{true}
+use lib.ListN.{length}
+use borrow.Author.Needs.{needs}
+use Rattle.celt_state.specs.State.{isStored}
 use Rattle.celt.proofs.Joined.{wrote}
-use Rattle.celt_answer.proofs.Exports.{wrong-lengths, right-lengths}
+use Rattle.celt_answer.proofs.Exports.{stored, wrong-lengths, right-lengths}
 use Rattle.celt.proofs.enc.celt_enc_icdf.Statement.{statement}
 use Rattle.celt.proofs.enc.celt_enc_icdf.Tie as tie
 
+-- the test of the guard
+tested : (c : tie.Then1) → isStored (c .before .before .before .before .before .args .state .now) ≡ true
+tested c = sym (c .before .is-stored .ensures) ∙ c .if1 .taken
+
+twelve : (c : tie.Then1) → length (c .before .before .before .before .before .args .state .now) ≡ 12
+twelve c = stored (c .before .before .before .before .before .args .state .now) (tested c)
+
+is-stored-requires : tie.Need-is-stored-requires
+is-stored-requires c κs = tt
+
 load-writer-requires : tie.Need-load-writer-requires
-load-writer-requires c κs = c .before .if1 .taken
+load-writer-requires c κs = twelve (c .before)
 
 icdf-requires : tie.Need-icdf-requires
 icdf-requires c κs = tt
 
 leave-write-requires : tie.Need-leave-write-requires
-leave-write-requires c κs = c .before .before .before .before .before .before .before .if1 .taken
+leave-write-requires c κs = twelve (c .before .before .before .before .before .before .before)
 
 same-length : tie.Need-same-length
 same-length c = c .before .leave-write .kept .1 .0
@@ -22,20 +36,25 @@ same-length-2 c = c .before .before .before .before .before .icdf .kept .1 .0
 
 returns : tie.Need-returns
 returns c =
-    right-lengths _ _ (eq-eqb _ _ (c .before .before .before .before .before .before .before .before .before .if1 .taken))
-    (wrote (c .before .before .before .before .before .before .before .before .before .before .before .before .args .state .now) _ _ _ (rw (c .before .before .before .before .before .before .before .load-writer .ensures) at (c .before .before .before .before .before .icdf .ensures)) (c .before .leave-write .ensures))
+    right-lengths _ _ (tested (c .before .before .before .before .before .before .before .before .before))
+    (wrote (c .before .before .before .before .before .before .before .before .before .before .before .before .before .before .args .state .now) _ _ _ _ (rw (c .before .before .before .before .before .before .before .load-writer .ensures) at (c .before .before .before .before .before .icdf .ensures)) (c .before .leave-write .ensures))
+
+same-length-3 : tie.Need-same-length-3
+same-length-3 c = search needs
 
 returns-2 : tie.Need-returns-2
-returns-2 c = wrong-lengths _ _ (ne-eqb _ _ (c .if1 .left))
+returns-2 c = wrong-lengths _ _ (sym (c .before .is-stored .ensures) ∙ c .if1 .left)
 
 pub celt-enc-icdf-spec : {M : Type 1} → statement M
 celt-enc-icdf-spec =
     tie.close
     (tie.spec
+    is-stored-requires
     load-writer-requires
     icdf-requires
     leave-write-requires
     same-length
     same-length-2
     returns
+    same-length-3
     returns-2)

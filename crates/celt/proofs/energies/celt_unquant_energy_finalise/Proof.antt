@@ -1,18 +1,32 @@
 -- `celt_unquant_energy_finalise`: the lengths, the call, and what is left of it. Assumes nothing.
-use borrow.Author.Tests.{eq-eqb, ne-eqb}
-use Rattle.celt_answer.proofs.Exports.{wrong-lengths, right-lengths}
+use mathlib.Core.Path.{_≡_, sym, _∙_}
+use mathlib.Core.Bool.{true}
+use lib.ListN.{length}
+use borrow.Author.Needs.{needs}
+use Rattle.celt_state.specs.State.{isStored}
+use Rattle.celt_answer.proofs.Exports.{stored, wrong-lengths, right-lengths}
 use Rattle.celt.proofs.Floats.{finalise-left}
 use Rattle.celt.proofs.energies.celt_unquant_energy_finalise.Statement.{statement}
 use Rattle.celt.proofs.energies.celt_unquant_energy_finalise.Tie as tie
 
+-- the test of the guard
+tested : (c : tie.Then1) → isStored (c .before .before .before .before .before .args .state .now) ≡ true
+tested c = sym (c .before .is-stored .ensures) ∙ c .if1 .taken
+
+twelve : (c : tie.Then1) → length (c .before .before .before .before .before .args .state .now) ≡ 12
+twelve c = stored (c .before .before .before .before .before .args .state .now) (tested c)
+
+is-stored-requires : tie.Need-is-stored-requires
+is-stored-requires c κs = tt
+
 load-reader-requires : tie.Need-load-reader-requires
-load-reader-requires c κs = c .before .if1 .taken
+load-reader-requires c κs = twelve (c .before)
 
 unquant-energy-finalise-requires : tie.Need-unquant-energy-finalise-requires
 unquant-energy-finalise-requires c κs = tt
 
 leave-energies-requires : tie.Need-leave-energies-requires
-leave-energies-requires c κs = c .before .before .before .before .before .before .before .if1 .taken
+leave-energies-requires c κs = twelve (c .before .before .before .before .before .before .before)
 
 same-length : tie.Need-same-length
 same-length c = c .before .leave-energies .kept .1 .0
@@ -26,23 +40,28 @@ returns c =
     let k = g .before .before .before .before in
     let d = k .before .before in
     let t = d .before .before in
-    let p = t .before .before .before in
+    let p = t .before .before .before .before .before in
     let a = p .args in
     let f = p .fits in
-    right-lengths _ _ (eq-eqb _ _ (t .if1 .taken))
+    right-lengths _ _ (tested t)
     (finalise-left (a .state .now) (a .fine .now) (a .priorities .now) (a .s .now) (a .energies .now) (f .c) (f .start) (f .end) (f .left) (d .load-reader .ensures) (k .unquant-energy-finalise .ensures) (g .leave-energies .ensures))
 
+same-length-3 : tie.Need-same-length-3
+same-length-3 c = search needs
+
 returns-2 : tie.Need-returns-2
-returns-2 c = wrong-lengths _ _ (ne-eqb _ _ (c .if1 .left))
+returns-2 c = wrong-lengths _ _ (sym (c .before .is-stored .ensures) ∙ c .if1 .left)
 
 pub celt-unquant-energy-finalise-spec : {M : Type 1} → statement M
 celt-unquant-energy-finalise-spec =
     tie.close
     (tie.spec
+    is-stored-requires
     load-reader-requires
     unquant-energy-finalise-requires
     leave-energies-requires
     same-length
     same-length-2
     returns
+    same-length-3
     returns-2)

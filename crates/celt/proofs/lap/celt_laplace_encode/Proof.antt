@@ -1,13 +1,24 @@
 -- `celt_laplace_encode`: the lengths, the call, and what is left of it. Assumes nothing.
 use mir.Facts.{toZ-ofZ}
+use mathlib.Core.Path.{_≡_}
+use mathlib.Core.Bool.{true, _&&_}
 use lib.ListN.{length}
+use borrow.Author.Needs.{needs}
+use Rattle.celt_state.specs.State.{isStored, isLong}
 use Rattle.celt.proofs.Joined.{wrote-value}
-use Rattle.celt_answer.proofs.Exports.{Both, both, wrong-lengths, right-lengths}
+use Rattle.celt_answer.proofs.Exports.{Both, stored-both, wrong-lengths, right-lengths}
 use Rattle.celt.proofs.lap.celt_laplace_encode.Statement.{statement}
 use Rattle.celt.proofs.lap.celt_laplace_encode.Tie as tie
 
-lengths : (c : tie.Then1) → let a = c .before .before .args in Both (length (a .state .now)) 12 (length (a .value .now)) 1
-lengths c = both _ _ _ _ (c .if1 .taken)
+-- the tests of the guard
+tested : (c : tie.Then1) → let a = c .before .before .before .before .args in (isStored (a .state .now) && isLong 1 (a .value .now)) ≡ true
+tested c = rw (c .before .is-stored .ensures) at (c .if1 .taken)
+
+lengths : (c : tie.Then1) → let a = c .before .before .before .before .args in Both (length (a .state .now)) 12 (length (a .value .now)) 1
+lengths c = let a = c .before .before .before .before .args in stored-both (a .state .now) (a .value .now) 1 (tested c)
+
+is-stored-requires : tie.Need-is-stored-requires
+is-stored-requires c κs = tt
 
 load-writer-requires : tie.Need-load-writer-requires
 load-writer-requires c κs = lengths (c .before) .one
@@ -31,16 +42,20 @@ same-length-3 c = c .before .before .leave-done .kept .1 .1 .0
 
 returns : tie.Need-returns
 returns c =
-    right-lengths _ _ (c .before .before .before .before .before .before .before .before .before .before .before .if1 .taken)
-    (wrote-value (c .before .before .before .before .before .before .before .before .before .before .before .before .before .args .state .now, c .before .before .before .before .before .before .before .before .before .before .before .before .before .args .value .now) _ _ _ _ (rw (toZ-ofZ (c .before .before .before .before .before .before .before .before .before .before .before .before .before .fits .z), c .before .before .before .before .before .before .before .before .before .load-writer .ensures) at (c .before .before .before .before .before .before .before .ec-laplace-encode .ensures)) (c .before .before .leave-done .ensures))
+    right-lengths _ _ (tested (c .before .before .before .before .before .before .before .before .before .before .before))
+    (wrote-value (c .before .before .before .before .before .before .before .before .before .before .before .before .before .before .before .args .state .now, c .before .before .before .before .before .before .before .before .before .before .before .before .before .before .before .args .value .now) _ _ _ _ (rw (toZ-ofZ (c .before .before .before .before .before .before .before .before .before .before .before .before .before .before .before .fits .z), c .before .before .before .before .before .before .before .before .before .load-writer .ensures) at (c .before .before .before .before .before .before .before .ec-laplace-encode .ensures)) (c .before .before .leave-done .ensures))
+
+same-length-4 : tie.Need-same-length-4
+same-length-4 c = search needs
 
 returns-2 : tie.Need-returns-2
-returns-2 c = wrong-lengths _ _ (c .if1 .left)
+returns-2 c = wrong-lengths _ _ (rw (c .before .is-stored .ensures) at (c .if1 .left))
 
 pub celt-laplace-encode-spec : {M : Type 1} → statement M
 celt-laplace-encode-spec =
     tie.close
     (tie.spec
+    is-stored-requires
     load-writer-requires
     ec-laplace-encode-requires
     leave-done-requires
@@ -48,4 +63,5 @@ celt-laplace-encode-spec =
     same-length-2
     same-length-3
     returns
+    same-length-4
     returns-2)

@@ -1,12 +1,23 @@
 -- `celt_decode_pulses`: the lengths, the call, and what is left of it. Assumes nothing.
+use mathlib.Core.Path.{_≡_}
+use mathlib.Core.Bool.{true, _&&_}
 use lib.ListN.{length}
+use borrow.Author.Needs.{needs}
+use Rattle.celt_state.specs.State.{isStored, isLong}
 use Rattle.celt.proofs.Joined.{placed}
-use Rattle.celt_answer.proofs.Exports.{Both, both, wrong-lengths, right-lengths}
+use Rattle.celt_answer.proofs.Exports.{Both, stored-both, wrong-lengths, right-lengths}
 use Rattle.celt.proofs.pulses.celt_decode_pulses.Statement.{statement}
 use Rattle.celt.proofs.pulses.celt_decode_pulses.Tie as tie
 
-lengths : (c : tie.Then1) → let a = c .before .before .before .args in Both (length (a .state .now)) 12 (length (a .energy .now)) 1
-lengths c = both _ _ _ _ (c .if1 .taken)
+-- the tests of the guard
+tested : (c : tie.Then1) → let a = c .before .before .before .before .before .args in (isStored (a .state .now) && isLong 1 (a .energy .now)) ≡ true
+tested c = rw (c .before .is-stored .ensures) at (c .if1 .taken)
+
+lengths : (c : tie.Then1) → let a = c .before .before .before .before .before .args in Both (length (a .state .now)) 12 (length (a .energy .now)) 1
+lengths c = let a = c .before .before .before .before .before .args in stored-both (a .state .now) (a .energy .now) 1 (tested c)
+
+is-stored-requires : tie.Need-is-stored-requires
+is-stored-requires c κs = tt
 
 load-reader-requires : tie.Need-load-reader-requires
 load-reader-requires c κs = lengths (c .before) .one
@@ -30,16 +41,20 @@ same-length-3 c = c .before .before .before .leave-found .kept .1 .1 .0
 
 returns : tie.Need-returns
 returns c =
-    right-lengths _ _ (c .before .before .before .before .before .before .before .before .before .before .before .if1 .taken)
-    (placed (c .before .before .before .before .before .before .before .before .before .before .before .before .before .before .args .state .now, c .before .before .before .before .before .before .before .before .before .before .before .before .before .before .args .energy .now) _ _ _ _ (rw (c .before .before .before .before .before .before .before .before .before .load-reader .ensures) at (c .before .before .before .before .before .before .before .decode-pulses .ensures)) (c .before .before .before .leave-found .ensures))
+    right-lengths _ _ (tested (c .before .before .before .before .before .before .before .before .before .before .before))
+    (placed (c .before .before .before .before .before .before .before .before .before .before .before .before .before .before .before .before .args .state .now, c .before .before .before .before .before .before .before .before .before .before .before .before .before .before .before .before .args .energy .now) _ _ _ _ (rw (c .before .before .before .before .before .before .before .before .before .load-reader .ensures) at (c .before .before .before .before .before .before .before .decode-pulses .ensures)) (c .before .before .before .leave-found .ensures))
+
+same-length-4 : tie.Need-same-length-4
+same-length-4 c = search needs
 
 returns-2 : tie.Need-returns-2
-returns-2 c = wrong-lengths _ _ (c .if1 .left)
+returns-2 c = wrong-lengths _ _ (rw (c .before .is-stored .ensures) at (c .if1 .left))
 
 pub celt-decode-pulses-spec : {M : Type 1} → statement M
 celt-decode-pulses-spec =
     tie.close
     (tie.spec
+    is-stored-requires
     load-reader-requires
     decode-pulses-requires
     leave-found-requires
@@ -47,4 +62,5 @@ celt-decode-pulses-spec =
     same-length-2
     same-length-3
     returns
+    same-length-4
     returns-2)

@@ -1,6 +1,7 @@
 -- `celt_record_fresh`: the lengths, and a fresh record into its lists. Assumes nothing.
 use mathlib.Core.Path.{refl, ap, _∙_}
 use lib.ListN.{length}
+use Rattle.entcode.specs.Said.{answer}
 use Rattle.stream.specs.Frame.{fresh}
 use Rattle.celt_state.specs.Record.{listsOf}
 use Rattle.celt_answer.proofs.Coded.{coded}
@@ -26,6 +27,7 @@ same-length-2 : tie.Need-same-length-2
 same-length-2 c = c .before .before .before .before .store-record .kept .1 .0
 
 returns : tie.Need-returns
+unfolding answer
 returns c =
     right-lengths _ _ (c .before .before .before .before .before .before .before .before .if1 .taken)
     (coded (listsOf fresh) _ {n = 0} refl (c .before .before .before .before .store-record .ensures ∙ ap listsOf (c .before .before .before .before .before .before .before .fresh .ensures)))

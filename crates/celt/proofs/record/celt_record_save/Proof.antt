@@ -26,7 +26,7 @@ same-length-2 c = c .before .before .leave-line .kept .1 .0
 returns : tie.Need-returns
 returns c =
     right-lengths _ _ (c .before .before .before .before .before .before .before .before .before .if1 .taken)
-    (line-saved (c .before .before .before .before .before .before .before .before .before .before .before .before .before .args .length .now) _ _ _ (rw (c .before .before .before .before .before .before .before .before .load-record .ensures) at (c .before .before .before .before .before .before .save .ensures)) (c .before .before .leave-line .ensures))
+    (line-saved (c .before .before .before .before .before .before .before .before .before .before .before .before .before .args .length .now) _ _ _ _ (rw (c .before .before .before .before .before .before .before .before .load-record .ensures) at (c .before .before .before .before .before .before .save .ensures)) (c .before .before .leave-line .ensures))
 
 returns-2 : tie.Need-returns-2
 returns-2 c = wrong-lengths _ _ (c .if1 .left)

@@ -1,12 +1,23 @@
 -- `celt_alg_unquant`: the lengths, the call, and what is left of it. Assumes nothing.
+use mathlib.Core.Path.{_≡_}
+use mathlib.Core.Bool.{true, _&&_}
 use lib.ListN.{length}
+use borrow.Author.Needs.{needs}
+use Rattle.celt_state.specs.State.{isStored, isLong}
 use Rattle.celt.proofs.Floats.{shape-left}
-use Rattle.celt_answer.proofs.Exports.{Both, both, wrong-lengths, right-lengths}
+use Rattle.celt_answer.proofs.Exports.{Both, stored-both, wrong-lengths, right-lengths}
 use Rattle.celt.proofs.shapes.celt_alg_unquant.Statement.{statement}
 use Rattle.celt.proofs.shapes.celt_alg_unquant.Tie as tie
 
-lengths : (c : tie.Then1) → let a = c .before .before .before .before .args in Both (length (a .state .now)) 12 (length (a .mask .now)) 1
-lengths c = both _ _ _ _ (c .if1 .taken)
+-- the tests of the guard
+tested : (c : tie.Then1) → let a = c .before .before .before .before .before .before .args in (isStored (a .state .now) && isLong 1 (a .mask .now)) ≡ true
+tested c = rw (c .before .is-stored .ensures) at (c .if1 .taken)
+
+lengths : (c : tie.Then1) → let a = c .before .before .before .before .before .before .args in Both (length (a .state .now)) 12 (length (a .mask .now)) 1
+lengths c = let a = c .before .before .before .before .before .before .args in stored-both (a .state .now) (a .mask .now) 1 (tested c)
+
+is-stored-requires : tie.Need-is-stored-requires
+is-stored-requires c κs = tt
 
 load-reader-requires : tie.Need-load-reader-requires
 load-reader-requires c κs = lengths (c .before) .one
@@ -34,19 +45,23 @@ returns c =
     let k = g .before .before .before .before .before in
     let d = k .before .before in
     let t = d .before .before in
-    let p = t .before .before .before .before in
+    let p = t .before .before .before .before .before .before in
     let a = p .args in
     let f = p .fits in
-    right-lengths _ _ (t .if1 .taken)
+    right-lengths _ _ (tested t)
     (shape-left (a .state .now, a .mask .now) (a .s .now) (a .shape .now) (a .gain) (f .n) (f .k) (f .spread) (f .b) (d .load-reader .ensures) (k .alg-unquant .ensures) (g .leave-shape .ensures))
 
+same-length-4 : tie.Need-same-length-4
+same-length-4 c = search needs
+
 returns-2 : tie.Need-returns-2
-returns-2 c = wrong-lengths _ _ (c .if1 .left)
+returns-2 c = wrong-lengths _ _ (rw (c .before .is-stored .ensures) at (c .if1 .left))
 
 pub celt-alg-unquant-spec : {M : Type 1} → statement M
 celt-alg-unquant-spec =
     tie.close
     (tie.spec
+    is-stored-requires
     load-reader-requires
     alg-unquant-requires
     leave-shape-requires
@@ -54,4 +69,5 @@ celt-alg-unquant-spec =
     same-length-2
     same-length-3
     returns
+    same-length-4
     returns-2)

@@ -3,10 +3,10 @@ use lib.Dec.{lit≤}
 use denote.Ref.{now}
 use Rattle.laws.proofs.Tests.{between}
 use Rattle.entcode.specs.Sym.{lengthOk, shapeOk, listOk}
+use Rattle.entcode.proofs.Said.{answer-done, answer-refused}
 use Rattle.entcode.specs.Sym.Shape.{bit}
 use Rattle.entdec.specs.Rule.{refusalR}
 use Rattle.entdec.proofs.Accepted.{opened-for}
-use Rattle.entdec.proofs.Answers.{answer-got, answer-refused}
 use Rattle.entdec.proofs.Chain.{sound-ready}
 use borrow.Author.Needs.{needs}
 use Rattle.entdec.proofs.Reader.bit_logp.Statement.{statement}
@@ -30,7 +30,7 @@ bit-requires c κs =
 returns : tie.Need-returns
 returns c =
     let g = gated (c .before .before) in
-    rw (c .bit .ensures) (sym (answer-got _ _ (sym g ∙ c .before .if1 .taken)))
+    rw (c .bit .ensures) (sym (answer-done _ _ (sym g ∙ c .before .if1 .taken)))
 
 returns-2 : tie.Need-returns-2
 returns-2 c =

@@ -3,10 +3,10 @@ use lib.Dec.{lit≤}
 use denote.Ref.{now}
 use Rattle.laws.proofs.Tests.{between}
 use Rattle.entcode.specs.Sym.{lengthOk, shapeOk, listOk}
+use Rattle.entcode.proofs.Said.{answer-done, answer-refused}
 use Rattle.entcode.specs.Sym.Shape.{raw}
 use Rattle.entdec.specs.Rule.{refusalR}
 use Rattle.entdec.proofs.Accepted.{opened-for}
-use Rattle.entdec.proofs.Answers.{answer-got, answer-refused}
 use Rattle.entdec.proofs.Chain.{sound-ready}
 use native.Mathlib.Omega.{arith}
 use borrow.Author.Needs.{needs}
@@ -32,7 +32,7 @@ raw-requires c κs =
 returns : tie.Need-returns
 returns c =
     let g = gated (c .before .before) in
-    rw (c .raw .ensures) (sym (answer-got _ _ (sym g ∙ c .before .if1 .taken)))
+    rw (c .raw .ensures) (sym (answer-done _ _ (sym g ∙ c .before .if1 .taken)))
 
 returns-2 : tie.Need-returns-2
 returns-2 c =

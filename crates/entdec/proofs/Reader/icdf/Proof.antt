@@ -4,10 +4,10 @@ use denote.Ref.{now}
 use borrow.Author.Tests.{ltb-true}
 use Rattle.laws.proofs.Tests.{between}
 use Rattle.entcode.specs.Sym.{lengthOk, shapeOk, listOk}
+use Rattle.entcode.proofs.Said.{answer-done, answer-refused}
 use Rattle.entcode.specs.Sym.Shape.{table}
 use Rattle.entdec.specs.Rule.{refusalR}
 use Rattle.entdec.proofs.Accepted.{opened-for}
-use Rattle.entdec.proofs.Answers.{answer-got, answer-refused}
 use Rattle.entdec.proofs.Chain.{sound-ready}
 use borrow.Author.Needs.{needs}
 use Rattle.entdec.proofs.Reader.icdf.Statement.{statement}
@@ -32,7 +32,7 @@ symbol-requires c κs =
 returns : tie.Need-returns
 returns c =
     let g = gated (c .before .before) in
-    rw (c .symbol .ensures) (sym (answer-got _ _ (sym g ∙ c .before .if1 .taken)))
+    rw (c .symbol .ensures) (sym (answer-done _ _ (sym g ∙ c .before .if1 .taken)))
 
 returns-2 : tie.Need-returns-2
 returns-2 c =

@@ -3,6 +3,7 @@ use native.Mathlib.Omega.{arith}
 use denote.Ref.{now}
 use borrow.Author.Tests.{le-leb, lt-leb}
 use Rattle.entcode.specs.Range.{turns}
+use Rattle.entcode.specs.Said.{answer}
 use Rattle.entdec.specs.Read.{freshReader}
 use Rattle.entdec.proofs.Pulls.{forth-le}
 use borrow.Author.Needs.{needs}
@@ -33,12 +34,13 @@ normalize-requires c κs =
     }
 
 returns : tie.Need-returns
-unfolding freshReader turns
+unfolding answer freshReader turns
 returns c =
     let s = now (c .before .before .before .before .before .args .s) in
     simp (le-leb (length s) 1275 (omega arith), c .normalize .ensures, c .before .forward .ensures, c .before .before .byte-at .ensures .0)
 
 returns-2 : tie.Need-returns-2
+unfolding answer
 returns-2 c = simp (lt-leb _ _ (c .if1 .left))
 
 pub new-spec : {M : Type 1} → statement M

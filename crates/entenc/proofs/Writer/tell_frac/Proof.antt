@@ -2,6 +2,7 @@
 use mathlib.Core.Path.{sym, _∙_}
 use native.Mathlib.Omega.{arith}
 use borrow.Author.Needs.{needs}
+use Rattle.entcode.specs.Said.{answer}
 use Rattle.entenc.proofs.Taken.{ruled}
 use Rattle.entenc.proofs.Writer.tell_frac.Statement.{statement}
 use Rattle.entenc.proofs.Writer.tell_frac.Tie as tie
@@ -15,9 +16,11 @@ tell-frac-of-requires c κs =
     (omega (arith, r .counts .low), r .counts .least, omega (arith, r .counts .most))
 
 returns : tie.Need-returns
+unfolding answer
 returns c = simp (sym (c .before .before .sound .ensures) ∙ c .before .if1 .taken, c .tell-frac-of .ensures)
 
 returns-2 : tie.Need-returns-2
+unfolding answer
 returns-2 c = simp (sym (c .before .sound .ensures) ∙ c .if1 .left)
 
 pub tell-frac-spec : {M : Type 1} → statement M

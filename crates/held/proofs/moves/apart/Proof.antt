@@ -1,5 +1,7 @@
 -- `held::moves::apart`: what was answered, taken apart. Assumes nothing.
 use mathlib.Core.Path.{ap, sym}
+use Rattle.entdec.specs.declared.Answer.{Answer}
+use Rattle.entdec.specs.Answer.{said}
 use Rattle.held.specs.Held.{stepOf}
 use borrow.Author.Needs.{needs}
 use Rattle.held.proofs.moves.apart.Statement.{statement}
@@ -12,10 +14,10 @@ enum-known-a-2 : tie.Need-enum-known-a-2
 enum-known-a-2 c = search needs
 
 returns : tie.Need-returns
-returns c = ap (stepOf (c .before .before .before .before .args .d)) (sym (c .before .before .a .given .1))
+returns c = ap (λ (x : Answer). stepOf (c .before .before .before .before .args .d) (said x)) (sym (c .before .before .a .given .1))
 
 returns-2 : tie.Need-returns-2
-returns-2 c = ap (stepOf (c .before .before .before .args .d)) (sym (c .before .a2 .given .1))
+returns-2 c = ap (λ (x : Answer). stepOf (c .before .before .before .args .d) (said x)) (sym (c .before .a2 .given .1))
 
 pub apart-spec : {M : Type 1} → statement M
 apart-spec = tie.close (tie.spec enum-known-a enum-known-a-2 returns returns-2)

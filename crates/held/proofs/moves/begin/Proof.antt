@@ -1,5 +1,6 @@
 -- `held::moves::begin`: a new reader, taken apart. Assumes nothing.
 use mathlib.Core.Path.{ap, sym, _∙_}
+use Rattle.entdec.specs.Answer.{saidStart}
 use Rattle.held.specs.Held.{begunOf}
 use borrow.Author.Needs.{needs}
 use Rattle.held.proofs.moves.begin.Statement.{statement}
@@ -18,10 +19,10 @@ none-requires : tie.Need-none-requires
 none-requires c κs = search needs
 
 returns : tie.Need-returns
-returns c = ap begunOf (sym (c .before .num .given .1) ∙ c .before .before .before .new .ensures)
+returns c = ap begunOf (sym (ap saidStart (c .before .num .given .1)) ∙ c .before .before .before .new .ensures)
 
 returns-2 : tie.Need-returns-2
-returns-2 c = rw (c .none .ensures) (ap begunOf (sym (c .before .before .code .given .1) ∙ c .before .before .before .before .new .ensures))
+returns-2 c = rw (c .none .ensures) (ap begunOf (sym (ap saidStart (c .before .before .code .given .1)) ∙ c .before .before .before .before .new .ensures))
 
 pub begin-spec : {M : Type 1} → statement M
 begin-spec =

@@ -2,6 +2,7 @@
 use mathlib.Core.Path.{ap, sym, _∙_}
 use mir.Facts.{toZ-ofZ}
 use mir.Syntax.{w32}
+use Rattle.laplace.specs.Answer.{saidRead}
 use Rattle.held.specs.Held.{lapOf}
 use borrow.Author.Needs.{needs}
 use Rattle.held.proofs.moves.laplace.Statement.{statement}
@@ -20,10 +21,10 @@ returns : tie.Need-returns
 returns c =
     let y = c .before .before .before .y .given in
     rw (toZ-ofZ {w = w32} {z = y .0 .0 .value} (record { sfits = c .struct-told .given .0 .1 }))
-    (ap (lapOf (c .before .before .before .before .before .before .before .args .d)) (sym (y .1) ∙ c .before .before .before .before .before .ec-laplace-decode .ensures))
+    (ap (lapOf (c .before .before .before .before .before .before .before .args .d)) (sym (ap saidRead (y .1)) ∙ c .before .before .before .before .before .ec-laplace-decode .ensures))
 
 returns-2 : tie.Need-returns-2
-returns-2 c = ap (lapOf (c .before .before .before .before .before .args .d)) (sym (c .before .n .given .1) ∙ c .before .before .before .ec-laplace-decode .ensures)
+returns-2 c = ap (lapOf (c .before .before .before .before .before .args .d)) (sym (ap saidRead (c .before .n .given .1)) ∙ c .before .before .before .ec-laplace-decode .ensures)
 
 pub laplace-spec : {M : Type 1} → statement M
 laplace-spec =

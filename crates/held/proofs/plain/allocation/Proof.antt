@@ -42,8 +42,9 @@ use denote.Triple.Spec.{tripleOf}
 use denote.Triple.Walked.{says, Stays, stay-none, stay-none-slice, gave-slice, walkOf, goes-none, goes-none-slice, goes-gave-slice, ends-at}
 use denote.Exit.{yes}
 use Rattle.rate.specs.Answer.{reading}
-use Rattle.rate.specs.Question.{lists, numbers}
-use Rattle.held.specs.Held.{AllocAfter, allocAfter, allocOf, moved}
+use Rattle.rate.specs.Question.{Lists as BandLists, lists, numbers}
+use Rattle.held.specs.declared.Allocation.{Allocation}
+use Rattle.held.specs.Held.{After, allocAfter, allocOf, both, moved, saidAllocated, stepped}
 use Rattle.held.proofs.Closing.{asks-no-more, met-by}
 use Rattle.held.proofs.Holding.{num-val, pair-val, packet-val, Packet, holding, hidden, δ, R, mach, Own, is-holding, is-num-of, makes-holding, comes-back}
 use Rattle.held.proofs.Lent.{Lent, lends-local}
@@ -102,7 +103,7 @@ module _ {M : Type 1} (𝓤 : URA M) (H : Heap 𝓤) (A : Atoms 𝓤) (W : Given
   abbrev Post : Val → SProp 𝓤
   Post = walkOf 𝓤 H A f.ended stayed (f.clauses 𝓤 H A at-mem run) .post (((κ, (κ₁, (κ₂, (κ₃, (κ₄, (κ₅, tt)))))), (q, (q₁, (q₂, (q₃, (q₄, (q₅, tt)))))), tt, x, at), tt)
 
-  abbrev found : AllocAfter
+  abbrev found : After Allocation BandLists
   found = allocOf num (reading (numbers c lm start end trim total) (offsets .now) (caps .now) (buf .now) num (lists (pulses .now) (fine .now) (priorities .now)))
 
   -- the call, on the local at l, which is lent for ν under the name γ
@@ -114,7 +115,7 @@ module _ {M : Type 1} (𝓤 : URA M) (H : Heap 𝓤) (A : Atoms 𝓤) (W : Given
 
   -- what it says: of its answer, of the reader, of the lists
   abbrev Done : Allocated → EcDec → List ℤ → List ℤ → List ℤ → Type 0
-  Done k d z₀ z₁ z₂ = (k ≡ found .step .answer) × (d ≡ moved h (found .step .next)) × (lists z₀ z₁ z₂ ≡ found .lent)
+  Done k d z₀ z₁ z₂ = (saidAllocated k ≡ found .step .said) × (d ≡ moved h (found .step .next)) × (lists z₀ z₁ z₂ ≡ found .lent)
 
   exits : (r : AllocStep) (z₀ : List ℤ) (z₁ : List ℤ) (z₂ : List ℤ) (u : Val) → allocAfter r (lists z₀ z₁ z₂) ≡ found → length z₀ ≡ length (pulses .now) → length z₁ ≡ length (fine .now) → length z₂ ≡ length (priorities .now) → Is S.the-row r (u ∷ []) → ent 𝓤 (⋆ 𝓤 H A ((‵ (flft κ q) ⊛ ‵ (flft κ₁ q₁) ⊛ ‵ (flft κ₂ q₂) ⊛ ‵ (flft κ₃ q₃) ⊛ ‵ (flft κ₄ q₄) ⊛ ‵ (flft κ₅ q₅) ⊛ ‵ ftrue) ∷ ‵ (Packet κ buf) ∷ ‵ (Kept 1 κs y) ∷ ‵ ((Finals 1 κs y) z₀ z₁ z₂) ∷ [])) (Post u)
   exits r z₀ z₁ z₂ u e l₀ l₁ l₂ is =
@@ -174,7 +175,7 @@ module _ {M : Type 1} (𝓤 : URA M) (H : Heap 𝓤) (A : Atoms 𝓤) (W : Given
         assigns ! (agg ! (and-then ! (load ! (from ! (stop !)) (look ! 22 refl)) (and-then ! (load ! (from ! (stop !)) (look ! 6 refl)) (no-more !)))) (from ! (stop !)) (init ! 51 refl (LL.lawful S.the-type S′.the-laws 𝓤 H A W .typed (made k (zs .0 .num)) (pair-val u (num-val (zs .0 .num)) ∷ []) (((u ∷ [], (num-val (zs .0 .num) ∷ [], tt)), (refl, (is, ((is-num-of 1 κ (zs .0) _ is-d), tt))))) .0)) $
         returns ! (look ! 51 refl) $ forget ! 0 refl $ forget ! 6 refl $ forget ! 8 refl $ forget ! 10 refl $ forget ! 12 refl $ forget ! 14 refl $ forget ! 16 refl $ forget ! 18 refl $ forget ! 20 refl $ forget ! 22 refl $ forget ! 25 refl $ forget ! 27 refl $ forget ! 29 refl $ forget ! 31 refl $ forget ! 33 refl $ forget ! 35 refl $ forget ! 37 refl $ forget ! 39 refl $ forget ! 41 refl $ forget ! 43 refl $ forget ! 45 refl $ forget ! 47 refl $ forget ! 49 refl $ forget ! 51 refl $
         move ! (51 ∷ 52 ∷ []) $ free1 ! $ move ! (49 ∷ 50 ∷ []) $ free1 ! $ move ! (47 ∷ 48 ∷ []) $ free1 ! $ move ! (45 ∷ 46 ∷ []) $ free1 ! $ move ! (43 ∷ 44 ∷ []) $ free1 ! $ move ! (41 ∷ 42 ∷ []) $ free1 ! $ move ! (39 ∷ 40 ∷ []) $ free1 ! $ move ! (37 ∷ 38 ∷ []) $ free1 ! $ move ! (35 ∷ 36 ∷ []) $ free1 ! $ move ! (33 ∷ 34 ∷ []) $ free1 ! $ move ! (31 ∷ 32 ∷ []) $ free1 ! $ move ! (29 ∷ 30 ∷ []) $ free1 ! $ move ! (27 ∷ 28 ∷ []) $ free1 ! $ move ! (25 ∷ 26 ∷ []) $ free1 ! $ move ! (0 ∷ 24 ∷ []) $ free1 ! $ move ! (21 ∷ 22 ∷ []) $ free1 ! $ move ! (19 ∷ 20 ∷ []) $ free1 ! $ move ! (17 ∷ 18 ∷ []) $ free1 ! $ move ! (15 ∷ 16 ∷ []) $ free1 ! $ move ! (13 ∷ 14 ∷ []) $ free1 ! $ move ! (11 ∷ 12 ∷ []) $ free1 ! $ move ! (9 ∷ 10 ∷ []) $ free1 ! $ move ! (7 ∷ 8 ∷ []) $ free1 ! $ move ! (5 ∷ 6 ∷ []) $ free1 ! $ free0 ! $
-        join ! $ move ! (0 ∷ 2 ∷ []) $ by ! (exits (made k (zs .0 .num)) (zs .1 .1 .1 .1 .1 .1 .1 .1 .1 .0) (zs .1 .1 .1 .1 .1 .1 .1 .1 .1 .1 .0) (zs .1 .1 .1 .1 .1 .1 .1 .1 .1 .1 .1 .0) (pair-val u (num-val (zs .0 .num))) (λ i. allocAfter (made (e .0 i) (e .1 i .num)) (e .2 i)) l₀ l₁ l₂ ((u ∷ [], (num-val (zs .0 .num) ∷ [], tt)), (refl, (is, ((is-num-of 1 κ (zs .0) _ is-d), tt))))))))))))))))))))))))))))))))))))))))
+        join ! $ move ! (0 ∷ 2 ∷ []) $ by ! (exits (made k (zs .0 .num)) (zs .1 .1 .1 .1 .1 .1 .1 .1 .1 .0) (zs .1 .1 .1 .1 .1 .1 .1 .1 .1 .1 .0) (zs .1 .1 .1 .1 .1 .1 .1 .1 .1 .1 .1 .0) (pair-val u (num-val (zs .0 .num))) (λ i. both (stepped (e .0 i) (e .1 i .num)) (e .2 i)) l₀ l₁ l₂ ((u ∷ [], (num-val (zs .0 .num) ∷ [], tt)), (refl, (is, ((is-num-of 1 κ (zs .0) _ is-d), tt))))))))))))))))))))))))))))))))))))))))
 
 pub allocation-spec : {M : Type 1} → stated.statement M
 unfolding code.routine

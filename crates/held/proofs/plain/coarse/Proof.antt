@@ -43,7 +43,7 @@ use denote.Triple.Spec.{tripleOf}
 use denote.Triple.Walked.{says, Stays, stay-none, stay-none-slice, gave-slice, walkOf, goes-none, goes-none-slice, goes-gave-slice, ends-at}
 use denote.Exit.{yes}
 use Rattle.quant_bands.specs.Answer.{coarseReading}
-use Rattle.held.specs.Held.{CoarseAfter, coarseAfter, coarseOf, moved}
+use Rattle.held.specs.Held.{After, both, coarseAfter, coarseOf, moved, saidEnergies, stepped}
 use Rattle.held.proofs.Closing.{asks-no-more, met-by}
 use Rattle.held.proofs.Holding.{num-val, pair-val, packet-val, Packet, holding, hidden, δ, R, mach, Own, is-holding, is-num-of, makes-holding, comes-back}
 use Rattle.held.proofs.Lent.{Lent, lends-local}
@@ -102,7 +102,7 @@ module _ {M : Type 1} (𝓤 : URA M) (H : Heap 𝓤) (A : Atoms 𝓤) (W : Given
   abbrev Post : Val → SProp 𝓤
   Post = walkOf 𝓤 H A f.ended stayed (f.clauses 𝓤 H A at-mem run) .post (((κ, (κ₁, tt)), (q, (q₁, tt)), tt, x, at), tt)
 
-  abbrev found : CoarseAfter
+  abbrev found : After Unit (List Float)
   found = coarseOf num (coarseReading c lm start end intra (buf .now) num (energies .now))
 
   -- the call, on the local at l, which is lent for ν under the name γ
@@ -114,7 +114,7 @@ module _ {M : Type 1} (𝓤 : URA M) (H : Heap 𝓤) (A : Atoms 𝓤) (W : Given
 
   -- what it says: of its answer, of the reader, of the lists
   abbrev Done : Energies → EcDec → List Float → Type 0
-  Done k d z₀ = (k ≡ found .step .answer) × (d ≡ moved h (found .step .next)) × (z₀ ≡ found .lent)
+  Done k d z₀ = (saidEnergies k ≡ found .step .said) × (d ≡ moved h (found .step .next)) × (z₀ ≡ found .lent)
 
   exits : (r : EnergiesStep) (z₀ : List Float) (u : Val) → coarseAfter r z₀ ≡ found → length z₀ ≡ length (energies .now) → Is S.the-row r (u ∷ []) → ent 𝓤 (⋆ 𝓤 H A ((‵ (flft κ q) ⊛ ‵ (flft κ₁ q₁) ⊛ ‵ ftrue) ∷ ‵ (Packet κ buf) ∷ ‵ (Kept 1 κs y) ∷ ‵ ((Finals 1 κs y) z₀) ∷ [])) (Post u)
   exits r z₀ u e l₀ is =
@@ -165,7 +165,7 @@ module _ {M : Type 1} (𝓤 : URA M) (H : Heap 𝓤) (A : Atoms 𝓤) (W : Given
         assigns ! (agg ! (and-then ! (load ! (from ! (stop !)) (look ! 14 refl)) (and-then ! (load ! (from ! (stop !)) (look ! 6 refl)) (no-more !)))) (from ! (stop !)) (init ! 33 refl (LL.lawful S.the-type S′.the-laws 𝓤 H A W .typed (made k (zs .0 .num)) (pair-val u (num-val (zs .0 .num)) ∷ []) (((u ∷ [], (num-val (zs .0 .num) ∷ [], tt)), (refl, (is, ((is-num-of 1 κ (zs .0) _ is-d), tt))))) .0)) $
         returns ! (look ! 33 refl) $ forget ! 0 refl $ forget ! 6 refl $ forget ! 8 refl $ forget ! 10 refl $ forget ! 12 refl $ forget ! 14 refl $ forget ! 17 refl $ forget ! 19 refl $ forget ! 21 refl $ forget ! 23 refl $ forget ! 25 refl $ forget ! 27 refl $ forget ! 29 refl $ forget ! 31 refl $ forget ! 33 refl $
         move ! (33 ∷ 34 ∷ []) $ free1 ! $ move ! (31 ∷ 32 ∷ []) $ free1 ! $ move ! (29 ∷ 30 ∷ []) $ free1 ! $ move ! (27 ∷ 28 ∷ []) $ free1 ! $ move ! (25 ∷ 26 ∷ []) $ free1 ! $ move ! (23 ∷ 24 ∷ []) $ free1 ! $ move ! (21 ∷ 22 ∷ []) $ free1 ! $ move ! (19 ∷ 20 ∷ []) $ free1 ! $ move ! (17 ∷ 18 ∷ []) $ free1 ! $ move ! (0 ∷ 16 ∷ []) $ free1 ! $ move ! (13 ∷ 14 ∷ []) $ free1 ! $ move ! (11 ∷ 12 ∷ []) $ free1 ! $ move ! (9 ∷ 10 ∷ []) $ free1 ! $ move ! (7 ∷ 8 ∷ []) $ free1 ! $ move ! (5 ∷ 6 ∷ []) $ free1 ! $ free0 ! $
-        join ! $ move ! (0 ∷ 2 ∷ []) $ by ! (exits (made k (zs .0 .num)) (zs .1 .0) (pair-val u (num-val (zs .0 .num))) (λ i. coarseAfter (made (e .0 i) (e .1 i .num)) (e .2 i)) l₀ ((u ∷ [], (num-val (zs .0 .num) ∷ [], tt)), (refl, (is, ((is-num-of 1 κ (zs .0) _ is-d), tt)))))))))))))))))))))))))))))
+        join ! $ move ! (0 ∷ 2 ∷ []) $ by ! (exits (made k (zs .0 .num)) (zs .1 .0) (pair-val u (num-val (zs .0 .num))) (λ i. both (stepped (e .0 i) (e .1 i .num)) (e .2 i)) l₀ ((u ∷ [], (num-val (zs .0 .num) ∷ [], tt)), (refl, (is, ((is-num-of 1 κ (zs .0) _ is-d), tt)))))))))))))))))))))))))))))
 
 pub coarse-spec : {M : Type 1} → stated.statement M
 unfolding code.routine

@@ -41,7 +41,7 @@ use denote.Triple.Spec.{tripleOf}
 use denote.Triple.Walked.{says, Stays, stay-none, stay-none-slice, walkOf, goes-none, goes-none-slice, ends-at}
 use denote.Exit.{yes}
 use Rattle.entcode.specs.Sym.Shape.{table}
-use Rattle.held.specs.Held.{moved, readStep}
+use Rattle.held.specs.Held.{Stepped, moved, readStep, saidStep, saidSymbol, stepped}
 use Rattle.held.proofs.Closing.{asks-no-more, met-by}
 use Rattle.held.proofs.Holding.{num-val, pair-val, packet-val, Packet, holding, hidden, δ, R, mach, Own, is-holding, is-num-of, makes-holding, comes-back}
 use Rattle.held.proofs.Lent.{Lent, lends-local}
@@ -103,7 +103,7 @@ module _ {M : Type 1} (𝓤 : URA M) (H : Heap 𝓤) (A : Atoms 𝓤) (W : Given
   abbrev Post : Val → SProp 𝓤
   Post = walkOf 𝓤 H A f.ended stayed (f.clauses 𝓤 H A at-mem run) .post (((κ, (κ₁, tt)), (q, (q₁, tt)), tt, x, at), tt)
 
-  abbrev found : Step
+  abbrev found : Stepped ℕ
   found = readStep (table (t .now) ftb) (buf .now) num
 
   -- the call, on the local at l, which is lent for ν under the name γ
@@ -115,9 +115,9 @@ module _ {M : Type 1} (𝓤 : URA M) (H : Heap 𝓤) (A : Atoms 𝓤) (W : Given
 
   -- what it says: of its answer, of the reader
   abbrev Done : Symbol → EcDec → Type 0
-  Done k d = (k ≡ found .answer) × (d ≡ moved h (found .next))
+  Done k d = (saidSymbol k ≡ found .said) × (d ≡ moved h (found .next))
 
-  exits : (r : Step) (u : Val) → r ≡ found → Is S.the-row r (u ∷ []) → ent 𝓤 (⋆ 𝓤 H A ((‵ (flft κ q) ⊛ ‵ (flft κ₁ q₁) ⊛ ‵ ftrue) ∷ ‵ (Packet κ buf) ∷ ‵ Kept ∷ [])) (Post u)
+  exits : (r : Step) (u : Val) → saidStep r ≡ found → Is S.the-row r (u ∷ []) → ent 𝓤 (⋆ 𝓤 H A ((‵ (flft κ q) ⊛ ‵ (flft κ₁ q₁) ⊛ ‵ ftrue) ∷ ‵ (Packet κ buf) ∷ ‵ Kept ∷ [])) (Post u)
   exits r u e is =
       qed W ((‵ (flft κ q) ⊛ ‵ (flft κ₁ q₁) ⊛ ‵ ftrue) ∷ ‵ (Packet κ buf) ∷ ‵ Kept ∷ []) ∵
       suffices ! _ (ends-at 𝓤 H A f.ended stayed (f.clauses 𝓤 H A at-mem run) W (((κ, (κ₁, tt)), (q, (q₁, tt)), tt, x, at), tt) u r (tt, (tt, (tt, (tt, tt)))) (tt, (tt, (tt, (tt, tt))))) $ says ! e $ frame ! $
@@ -157,7 +157,7 @@ module _ {M : Type 1} (𝓤 : URA M) (H : Heap 𝓤) (A : Atoms 𝓤) (W : Given
         assigns ! (agg ! (and-then ! (load ! (from ! (stop !)) (look ! 9 refl)) (and-then ! (load ! (from ! (stop !)) (look ! 5 refl)) (no-more !)))) (from ! (stop !)) (init ! 20 refl (LL.lawful S.the-type S′.the-laws 𝓤 H A W .typed (made k (zs .0 .num)) (pair-val u (num-val (zs .0 .num)) ∷ []) (((u ∷ [], (num-val (zs .0 .num) ∷ [], tt)), (refl, (is, ((is-num-of 1 κ (zs .0) _ is-d), tt))))) .0)) $
         returns ! (look ! 20 refl) $ forget ! 0 refl $ forget ! 5 refl $ forget ! 7 refl $ forget ! 9 refl $ forget ! 12 refl $ forget ! 14 refl $ forget ! 16 refl $ forget ! 18 refl $ forget ! 20 refl $
         move ! (20 ∷ 21 ∷ []) $ free1 ! $ move ! (18 ∷ 19 ∷ []) $ free1 ! $ move ! (16 ∷ 17 ∷ []) $ free1 ! $ move ! (14 ∷ 15 ∷ []) $ free1 ! $ move ! (12 ∷ 13 ∷ []) $ free1 ! $ move ! (0 ∷ 11 ∷ []) $ free1 ! $ move ! (8 ∷ 9 ∷ []) $ free1 ! $ move ! (6 ∷ 7 ∷ []) $ free1 ! $ move ! (4 ∷ 5 ∷ []) $ free1 ! $ free0 ! $
-        join ! $ move ! (0 ∷ 2 ∷ []) $ by ! (exits (made k (zs .0 .num)) (pair-val u (num-val (zs .0 .num))) (λ i. made (e .0 i) (e .1 i .num)) ((u ∷ [], (num-val (zs .0 .num) ∷ [], tt)), (refl, (is, ((is-num-of 1 κ (zs .0) _ is-d), tt))))))))))))))))))))))
+        join ! $ move ! (0 ∷ 2 ∷ []) $ by ! (exits (made k (zs .0 .num)) (pair-val u (num-val (zs .0 .num))) (λ i. stepped (e .0 i) (e .1 i .num)) ((u ∷ [], (num-val (zs .0 .num) ∷ [], tt)), (refl, (is, ((is-num-of 1 κ (zs .0) _ is-d), tt))))))))))))))))))))))
 
 pub icdf-spec : {M : Type 1} → stated.statement M
 unfolding code.routine
