@@ -207,13 +207,13 @@ uint32_t celt_list(const uint8_t *line, size_t line_n, uint32_t number, uint8_t 
 
 /* ---- the round trip: what is written and closed is read back */
 
-/* The first of a symbol's CELT_SYMBOL numbers; any other number is CELT_LAPLACE too. After it come
+/* The first of a symbol's CELT_SYMBOL numbers. After it come
  *   CELT_BIT      the bit, logp
  *   CELT_TABLE    the symbol, ftb, the place of its first entry in tables, how many entries it has
  *   CELT_UNIFORM  the number, ft
  *   CELT_RAW      the bits, how many they are
  *   CELT_LAPLACE  0, 1, 2, 3, 4, .. for the value 0, -1, 1, -2, 2, .., fs, decay
- * and the rest of the five, which is not looked at. Of a table that goes past the end of tables the entries up to there are taken. */
+ * and the rest of the five, which is not looked at. */
 enum celt_kind { CELT_BIT, CELT_TABLE, CELT_UNIFORM, CELT_RAW, CELT_LAPLACE };
 
 /* What stands where in an outcome. */
@@ -230,8 +230,9 @@ enum celt_call { CELT_BY_NEW, CELT_BY_SYMBOL, CELT_BY_ALLOCATION, CELT_BY_CLOSE 
 
 /* Writes the symbols and an allocation with a new writer over a copy of the bytes, closes, reads all back and compares: each value, what is told
  * after each symbol, the allocation's numbers and lists. How it ended goes into outcome: a call of the writer that is refused ends it, and so does a
- * close that sets the error mark. A rest of fewer than CELT_SYMBOL numbers is no symbol. The call itself is refused as CELT_LENGTH alone, where
- * outcome has not CELT_OUTCOME numbers. */
+ * close that sets the error mark. The call itself is refused, and outcome stays as it was: as CELT_LENGTH where outcome has not CELT_OUTCOME numbers or symbols
+ * are not CELT_SYMBOL numbers each; else as CELT_NUMBER where a kind is above CELT_LAPLACE or a table has entries past the end of tables. The whole list
+ * of symbols is looked at before anything is written. */
 uint32_t celt_round_trip(const uint8_t *bytes, size_t bytes_n, const uint32_t *symbols, size_t symbols_n, const uint8_t *tables,
                          size_t tables_n, int32_t c, int32_t lm, int32_t start, int32_t end, int32_t trim, int32_t total,
                          int32_t intensity, int32_t dual, int32_t previous, int32_t bandwidth, const int32_t *offsets, size_t offsets_n,

@@ -1,4 +1,5 @@
-/* The round trip: it agrees, close reports an error, the calls that refuse and where; the outcome's length, and that nothing else is changed. */
+/* The round trip: it agrees, close reports an error, the calls that refuse and where; lists that are none of symbols, the outcome's length, and that nothing else is
+ * changed. */
 #include "try.h"
 
 enum { BYTES = 60, SYMBOLS = 6 };
@@ -19,7 +20,7 @@ static void good(struct trip *t) {
                                                            {CELT_UNIFORM, 70000, 100000},
                                                            {CELT_RAW, 5, 3},
                                                            {CELT_LAPLACE, 3, 72 << 7, 127 << 6},
-                                                           {CELT_TABLE, 3, 3, 4, 99}};
+                                                           {CELT_TABLE, 3, 3, 4, 4}};
     static const uint8_t tables[] = {7, 2, 1, 0, 6, 3, 1, 0};
     size_t j;
     memset(t, 0, sizeof *t);
@@ -63,12 +64,9 @@ static void ended(void) {
     static struct trip t;
     good(&t);
     ends(&t, CELT_AGREED, 0, 0, 0);
-    t.symbols[4][0] = UINT32_MAX; /* a kind above 4 is a Laplace value too */
+    t.symbols[0][3] = t.symbols[0][4] = t.symbols[2][3] = t.symbols[2][4] = t.symbols[4][4] = UINT32_MAX; /* numbers that are not looked at */
     ends(&t, CELT_AGREED, 0, 0, 0);
     t.symbols_n = 0; /* an allocation alone */
-    ends(&t, CELT_AGREED, 0, 0, 0);
-    t.symbols[0][0] = 9;
-    t.symbols_n = CELT_SYMBOL - 1; /* a rest that is no symbol */
     ends(&t, CELT_AGREED, 0, 0, 0);
 
     good(&t);
@@ -95,9 +93,7 @@ static void refusals(void) {
     good(&t);
     t.symbols[1][4] = 0; /* an empty table */
     refused(&t, CELT_BY_SYMBOL, 1, CELT_LENGTH);
-    t.symbols[1][3] = 8, t.symbols[1][4] = 1; /* one that begins at the end of tables */
-    refused(&t, CELT_BY_SYMBOL, 1, CELT_LENGTH);
-    t.symbols[1][3] = UINT32_MAX, t.symbols[1][4] = UINT32_MAX;
+    t.symbols[1][3] = 8; /* one at the end of tables */
     refused(&t, CELT_BY_SYMBOL, 1, CELT_LENGTH);
     good(&t);
     t.tables[2] = 2; /* its entries do not fall */
@@ -119,7 +115,7 @@ static void refusals(void) {
     t.symbols[4][1] = 65535; /* -32,768 */
     ends(&t, CELT_AGREED, 0, 0, 0);
     good(&t);
-    t.symbols[5][1] = 4; /* the table has four entries to the end of tables */
+    t.symbols[5][1] = 4; /* the table has four entries */
     refused(&t, CELT_BY_SYMBOL, 5, CELT_NUMBER);
     t.symbols[2][1] = 100000; /* the first that refuses */
     refused(&t, CELT_BY_SYMBOL, 2, CELT_NUMBER);
@@ -153,6 +149,47 @@ static void refusals(void) {
     refused(&t, CELT_BY_ALLOCATION, 0, CELT_PAST_END);
 }
 
+/* Refused as what is no list of symbols: nothing is changed. */
+static void malformed(const struct trip *t, enum celt_refusal why) {
+    static struct trip before;
+    uint64_t outcome[CELT_OUTCOME] = {1, 2, 3, 4}, kept[CELT_OUTCOME];
+    memcpy(kept, outcome, sizeof kept);
+    memcpy(&before, t, sizeof before);
+    IS(call(t, outcome, CELT_OUTCOME), why);
+    SAME(outcome, kept);
+    IS(memcmp(t, &before, sizeof before), 0);
+}
+
+/* Numbers that are no symbol, kinds there are none of, tables past the end; the length comes first, a call's own refusal after. */
+static void lists(void) {
+    static const uint32_t kinds[] = {5, 9, 1u << 31, UINT32_MAX};
+    static const uint32_t past[][2] = {{8, 1}, {0, 9}, {5, 4}, {9, 0}, {UINT32_MAX, 1}, {1, UINT32_MAX}, {UINT32_MAX, UINT32_MAX}};
+    static struct trip t;
+    size_t i, n;
+    for (n = 1; n < SYMBOLS * CELT_SYMBOL; n++)
+        if (n % CELT_SYMBOL != 0) {
+            good(&t);
+            t.symbols_n = n;
+            malformed(&t, CELT_LENGTH);
+            t.symbols[0][0] = 9, t.bytes_n = 1276, t.caps_n = 0;
+            malformed(&t, CELT_LENGTH);
+        }
+    for (i = 0; i < SYMBOLS; i++) {
+        for (n = 0; n < COUNT(kinds); n++) {
+            good(&t);
+            t.symbols[i][0] = kinds[n];
+            malformed(&t, CELT_NUMBER);
+            t.bytes_n = 1276, t.offsets_n = 0, t.symbols[0][1] = 2;
+            malformed(&t, CELT_NUMBER);
+        }
+        for (n = 0; n < COUNT(past); n++) {
+            good(&t);
+            t.symbols[i][0] = CELT_TABLE, t.symbols[i][3] = past[n][0], t.symbols[i][4] = past[n][1];
+            malformed(&t, CELT_NUMBER);
+        }
+    }
+}
+
 /* An outcome of another length, with all else wrong too: nothing is written. */
 static void lengths(void) {
     static const size_t wrong[] = {0, 1, 3, 5, 6};
@@ -163,7 +200,7 @@ static void lengths(void) {
     for (k = 0; k < 2; k++) {
         good(&t);
         if (k == 1)
-            t.bytes_n = 1276, t.c = 9, t.offsets_n = 0, t.symbols[0][2] = 0;
+            t.bytes_n = 1276, t.c = 9, t.offsets_n = 0, t.symbols[0][2] = 0, t.symbols[1][0] = 5;
         memcpy(&before, &t, sizeof before);
         for (i = 0; i < COUNT(wrong); i++) {
             IS(call(&t, outcome, wrong[i]), CELT_LENGTH);
@@ -176,5 +213,6 @@ static void lengths(void) {
 void try_trip(void) {
     ended();
     refusals();
+    lists();
     lengths();
 }

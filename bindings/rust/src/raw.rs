@@ -531,7 +531,8 @@ pub fn list(line: &[u8], number: u32, out: &mut [u8], length: &mut [usize]) -> u
 // ---- The round trip
 
 /// Writes symbols, five numbers each, and an allocation with a new writer over a copy of the bytes, closes, reads back and compares; how it ended goes
-/// into outcome, four numbers (bindings/c/celt.h says which).
+/// into outcome, four numbers (bindings/c/celt.h says which). Refused, with the outcome as it was: 2 where the symbols are not five numbers each or the outcome has
+/// not four, 1 where a kind is above 4 or a table has entries past the end of tables.
 #[allow(clippy::too_many_arguments)]
 pub fn round_trip(
     bytes: &[u8],

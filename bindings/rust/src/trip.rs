@@ -117,6 +117,6 @@ pub fn round_trip(bytes: &[u8], symbols: &[Symbol<'_>], frame: &Frame, wishes: &
         &frame.caps,
         &mut outcome,
     );
-    Refusal::check(answer).expect("an outcome of four numbers is not refused");
+    Refusal::check(answer).expect("five numbers each, of known kinds and tables that are there, are not refused");
     Outcome::of(outcome)
 }

@@ -201,11 +201,11 @@ fn refusals() {
     );
 }
 
-/// An outcome that has not four numbers is 2, before everything else, and nothing is written; lists of other lengths are in the outcome.
+/// An outcome that has not four numbers is 2, before everything else, and nothing is written; offsets and caps of other lengths are in the outcome.
 #[test]
 fn lengths() {
     let call = |offsets: &[i32], caps: &[i32], outcome: &mut [u64]| {
-        raw::round_trip(&[7; 9], &[0, 1, 3, 0], &[], 1, 0, 0, 21, 5, 100, 0, 0, 0, 0, offsets, caps, outcome)
+        raw::round_trip(&[7; 9], &[0, 1, 3, 0, 0], &[], 1, 0, 0, 21, 5, 100, 0, 0, 0, 0, offsets, caps, outcome)
     };
     for n in [0, 1, 3, 5, 1000] {
         let mut outcome = vec![77; n];
@@ -219,7 +219,34 @@ fn lengths() {
         assert_eq!(call(&[0; 21], &vec![0; n], &mut outcome), 0);
         assert_eq!(outcome, [2, 2, 0, 2]);
     }
-    // four numbers are no symbol
     assert_eq!(call(&[0; 21], &[100; 21], &mut outcome), 0);
     assert_eq!(outcome, [0; 4]);
+}
+
+/// What is no list of symbols is refused, the length before a kind or a table, and the outcome stays; numbers that a kind has no use for are not looked at.
+#[test]
+fn no_symbols() {
+    let call = |symbols: &[u32], caps: &[i32]| {
+        let mut outcome = [77; 4];
+        let tables = [7, 2, 1, 0];
+        let answer = raw::round_trip(&[7; 9], symbols, &tables, 1, 0, 0, 21, 5, 100, 0, 0, 0, 0, &[0; 21], caps, &mut outcome);
+        (answer, outcome)
+    };
+    let kept = |no| (no, [77; 4]);
+    let (caps, any) = ([100; 21], u32::MAX);
+    assert_eq!(call(&[], &caps), (0, [0; 4]));
+    assert_eq!(call(&[0, 1, 3, any, any, 2, 6, 7, any, any, 1, 0, 2, 1, 3], &caps), (0, [0; 4]));
+    for n in [1, 2, 3, 4, 6, 9, 11] {
+        assert_eq!(call(&vec![0; n], &caps), kept(2));
+        assert_eq!(call(&vec![9; n], &[]), kept(2));
+    }
+    for kind in [5, 6, 1 << 31, any] {
+        assert_eq!(call(&[kind, 0, 0, 0, 0], &caps), kept(1));
+        assert_eq!(call(&[0, 2, 3, 0, 0, kind, 0, 0, 0, 0], &[]), kept(1));
+    }
+    for (first, entries) in [(4, 1), (0, 5), (2, 3), (5, 0), (any, 1), (1, any), (any, any)] {
+        assert_eq!(call(&[1, 0, 2, first, entries], &caps), kept(1));
+    }
+    // none at the end of tables is there, but too short for its call
+    assert_eq!(call(&[1, 0, 2, 4, 0], &caps), (0, [2, 1, 0, 2]));
 }

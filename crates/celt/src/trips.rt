@@ -1,5 +1,5 @@
 // What is written is read back: the call of round_trip_run.
-use celt_trip::leave_outcome;
+use celt_trip::leave_trip;
 use rate::Numbers;
 use round_trip_run::Wishes;
 ghost use mathlib.Core.Path.{_≡_};
@@ -7,7 +7,8 @@ ghost use Rattle.rate.specs.Question.{numbers, wishes};
 ghost use Rattle.celt_answer.specs.Left.{left};
 ghost use Rattle.celt.specs.Trips.{trips};
 
-// Symbols, five numbers each, and an allocation are written over the bytes, closed, read back and compared; how it ended goes into outcome.
+// Symbols, five numbers each, and an allocation are written over the bytes, closed, read back and compared; how it ended goes into outcome. Symbols that
+// are no list of symbols are refused.
 #[no_mangle]
 pub extern "C" fn celt_round_trip(
     bytes: &[u8],
@@ -46,9 +47,8 @@ pub extern "C" fn celt_round_trip(
             previous,
             bandwidth,
         };
-        let o = round_trip_run::round_trip(bytes, symbols, tables, q, h, offsets, caps);
-        leave_outcome(o, outcome);
-        return 0;
+        let t = round_trip_run::round_trip(bytes, symbols, tables, q, h, offsets, caps);
+        return leave_trip(t, outcome);
     }
     2
 }

@@ -1,9 +1,10 @@
 // How a round trip ended, as four numbers into the list that a call was lent.
 use round_trip_run::Call;
 use round_trip_run::Outcome;
+use round_trip_run::Trip;
 ghost use mathlib.Core.Path.{_≡_};
 ghost use lib.ListN.{length};
-ghost use Rattle.celt_trip.specs.Trip.{four, numbersOf, refusedBy};
+ghost use Rattle.celt_trip.specs.Trip.{four, leftBy, numberOf, numbersOf, refusedBy};
 
 // The four numbers into a list.
 fn put_four(outcome: &mut [u64], how: u64, by: u64, place: u64, n: u64)
@@ -30,7 +31,7 @@ fn leave_refused(by: Call, n: u32, outcome: &mut [u64])
 }
 
 // What an outcome leaves.
-pub fn leave_outcome(o: Outcome, outcome: &mut [u64])
+fn leave_outcome(o: Outcome, outcome: &mut [u64])
     requires { ⌜ length (now outcome) ≡ 4 ⌝ }
     ensures { λ _. ⌜ now (outcome .exit) ≡ numbersOf o ⌝ }
 {
@@ -39,5 +40,19 @@ pub fn leave_outcome(o: Outcome, outcome: &mut [u64])
         Outcome::Refused(by, n) => leave_refused(by, n, outcome),
         Outcome::NotClosed => put_four(outcome, 1, 0, 0, 0),
         Outcome::Disagreed => put_four(outcome, 3, 0, 0, 0),
+    }
+}
+
+// What a trip leaves, and its number: a refused one leaves the list as it was.
+pub fn leave_trip(t: Trip, outcome: &mut [u64]) -> u32
+    requires { ⌜ length (now outcome) ≡ 4 ⌝ }
+    ensures { λ r. ⌜ (r ≡ numberOf t) × (now (outcome .exit) ≡ leftBy t (now (outcome .entry))) ⌝ }
+{
+    match t {
+        Trip::Ended(o) => {
+            leave_outcome(o, outcome);
+            0
+        }
+        Trip::Refused(n) => n,
     }
 }

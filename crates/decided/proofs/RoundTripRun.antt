@@ -2,17 +2,17 @@
 use Prim.Native.Nat.{ℕ}
 use Rattle.decided.proofs.One.{one}
 use Rattle.rate.specs.declared.Numbers.{Numbers}
-use Rattle.round_trip_run.specs.Given.{symbolsOf}
-use Rattle.round_trip_run.specs.Outcome.{outcomeOf}
-use Rattle.round_trip_run.specs.Shares.{wishesOf}
-use Rattle.round_trip_run.specs.declared.Outcome.{Outcome}
+use Rattle.round_trip_run.specs.Given.{refusalGiven, symbolsOf, wishesOf}
+use Rattle.round_trip_run.specs.Outcome.{outcomeOf, tripOf}
+use Rattle.round_trip_run.specs.declared.Trip.{Trip}
 use Rattle.round_trip_run.specs.declared.Wishes.{Wishes}
 use lib.IntN.{ℤ}
 use mathlib.Core.List.{List}
 use mathlib.Core.Path.{_≡_}
 
 -- round_trip
-pub round-trip : (bytes : List ℕ) (symbols : List ℕ) (tables : List ℕ) (q : Numbers) (h : Wishes) (offsets : List ℤ) (caps : List ℤ) (r₁ r₂ : Outcome)
-    → r₁ ≡ outcomeOf q offsets caps (wishesOf h) bytes (symbolsOf symbols tables) → r₂ ≡ outcomeOf q offsets caps (wishesOf h) bytes (symbolsOf symbols tables)
+pub round-trip : (bytes : List ℕ) (symbols : List ℕ) (tables : List ℕ) (q : Numbers) (h : Wishes) (offsets : List ℤ) (caps : List ℤ) (r₁ r₂ : Trip)
+    → r₁ ≡ tripOf (refusalGiven symbols tables) (outcomeOf q offsets caps (wishesOf h) bytes (symbolsOf symbols tables)) → r₂ ≡ tripOf (refusalGiven symbols tables) (outcomeOf q offsets caps (wishesOf h) bytes (symbolsOf symbols tables))
     → r₁ ≡ r₂
-round-trip bytes symbols tables q h offsets caps r₁ r₂ e₁ e₂ = one e₁ e₂
+round-trip bytes symbols tables q h offsets caps r₁ r₂ e₁ e₂ =
+    one e₁ e₂

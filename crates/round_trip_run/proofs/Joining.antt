@@ -1,9 +1,10 @@
 -- The code's rows are the rows of the theorem. Assumes nothing.
 use Prim.Native.Nat.{ℕ, zero, suc, _+_, _/_}
 use mathlib.Core.Path.{_≡_, refl, ap, sym, _∙_}
-use mathlib.Core.Bool.{true}
-use mathlib.Core.List.{List, _∷_}
+use mathlib.Core.Bool.{Bool, true, false, true≢false, cond, _&&_, and-eq-true-iff}
+use mathlib.Core.List.{List}
 use native.Mathlib.Omega.{arith}
+use lib.IntN.{ℤ}
 use lib.ListN.{length}
 use borrow.Author.Tests.{eq-eqb}
 use Rattle.entcode.specs.declared.Told.{Told}
@@ -11,20 +12,24 @@ use Rattle.entcode.specs.declared.Told.the-variants.{Used, Refused}
 use Rattle.entdec.specs.declared.Reader.{Reader}
 use Rattle.entenc.specs.declared.Writer.{Writer}
 use Rattle.entenc.specs.Write.{Wr, wr}
-use Rattle.round_trip.specs.Calls.{Kind, Put, Symbol, Tells, Took, Value, countOf, readCall, symbol, tellsR, tellsW, writeCall}
+use Rattle.rate.specs.declared.Numbers.{Numbers}
+use Rattle.rate.specs.declared.WrittenAllocation.{WrittenAllocation}
+use Rattle.rate.specs.Question.{Lists}
+use Rattle.round_trip.specs.Calls.{Kind, Put, Symbol, Tells, Took, Value, readCall, symbol, tellsR, tellsW, writeCall}
 use Rattle.round_trip.specs.Calls.Put.{put, noPut}
 use Rattle.round_trip.specs.Calls.Took.{took, noTook}
 use Rattle.round_trip.specs.Rows.{Got, Wrote, afterPut, afterTook, kinds, putThen, readAll, tookThen, writeAll}
 use Rattle.round_trip.specs.Rows.Wrote.{wrote, noWrite}
 use Rattle.round_trip.specs.Rows.Got.{got, noRead}
-use Rattle.round_trip.proofs.RowsBack.{went}
 use Rattle.round_trip_run.specs.declared.rows.Row.{Row}
 use Rattle.round_trip_run.specs.declared.rows.Row.the-variants as row
 use Rattle.round_trip_run.specs.Given.{givenAt, symbolOf, symbolsFrom, symbolsOf}
 use Rattle.round_trip_run.specs.Steps.{countPut, countTook, putSymbol, takeSymbol}
-use Rattle.round_trip_run.specs.Runs.{Pairs, Ran, pairBy, pairFrom, ranBy, rowIs, runFrom, sameTells, sameTold}
+use Rattle.round_trip_run.specs.Runs.{Pairs, Ran, pairBy, pairFrom, ranBy, rowIs, runFrom}
 use Rattle.round_trip_run.specs.Runs.Ran.{ran, noRan}
-use Rattle.round_trip_run.specs.Runs.Pairs.{same}
+use Rattle.round_trip_run.specs.Runs.Pairs.{same, differs}
+use Rattle.round_trip_run.specs.ReadBack.{rowAgrees, sharesAgree}
+use Rattle.round_trip_run.specs.Same.{alike, sameTells, sameTold, sameValue}
 
 -- ---- written
 
@@ -89,59 +94,74 @@ told-same (Refused n) = eq-eqb n n refl
 pub tells-equal : (a b : Tells) → b ≡ a → sameTells a b ≡ true
 tells-equal a b e = rw (e, told-same (a .bits), told-same (a .eighths))
 
--- a row that was read: its first symbol, and the others
-record Came (k : Kind) (x : Took (Value k)) (more : Reader → Got) (e : Reader) (zs : List Symbol) (ts : List Tells) : Type 0 where
-  value : Value k
-  next : Reader
-  zs₁ : List Symbol
-  ts₁ : List Tells
-  call : x ≡ took value next
-  rests : more next ≡ got e zs₁ ts₁
-  symbols : zs ≡ symbol k value ∷ zs₁
-  tells : ts ≡ tellsR next ∷ ts₁
+-- the symbols as they were written and as they were read, compared
+abbrev paired : Wrote → Got → Pairs
+paired (wrote v zs ts) (got e xs us) = cond (alike sameValue zs xs && alike sameTells ts us) (same v e) differs
+paired (wrote v zs ts) (noRead i n) = differs
+paired (noWrite i n) r = differs
 
-came-more : (k : Kind) (v : Value k) (d : Reader) (more : Reader → Got) (e : Reader) (zs : List Symbol) (ts : List Tells) (a : Got) → more d ≡ a
-    → afterTook (symbol k v) (tellsR d) a ≡ got e zs ts → Came k (took v d) more e zs ts
-came-more k v d more e zs ts (got f ys us) p q =
-    let r : f ≡ e = cc in
-    record { value = v; next = d; zs₁ = ys; ts₁ = us; call = refl; rests = p ∙ ap (λ (x : Reader). got x ys us) r; symbols = cc; tells = cc }
-came-more k v d more e zs ts (noRead i n) p q = let z : _≡_ {A = ℕ} 0 1 = cc in absurd (omega arith)
+-- four tests of which the two of the first symbol fail
+first-fails : (p q a b : Bool) → p && q ≡ false → (p && a && (q && b)) ≡ false
+first-fails false q a b h = refl
+first-fails true false true b h = refl
+first-fails true false false b h = refl
+first-fails true true a b h = absurd (true≢false h)
 
-came : (k : Kind) (x : Took (Value k)) (more : Reader → Got) (e : Reader) (zs : List Symbol) (ts : List Tells) → tookThen k x more ≡ got e zs ts → Came k x more e zs ts
-came k (took v d) more e zs ts h = came-more k v d more e zs ts (more d) refl h
-came k (noTook n) more e zs ts h = let z : _≡_ {A = ℕ} 0 1 = cc in absurd (omega arith)
+module _ (y z : Symbol) (t u : Tells) where
+  -- a first symbol that is the same, and one that is not
+  paired-on : (a : Wrote) (r : Got) → sameValue y z && sameTells t u ≡ true → paired a r ≡ paired (afterPut y t a) (afterTook z u r)
+  unfolding alike
+  paired-on (wrote v zs ts) (got e xs us) h =
+      let k = and-eq-true-iff (sameValue y z) (sameTells t u) .0 h in
+      rw (k .0, k .1)
+  paired-on (wrote v zs ts) (noRead i n) h = refl
+  paired-on (noWrite i n) r h = refl
 
--- the first of two lists that are equal, and their rests
-head-is : {A : Type 0} {x y : A} {l m : List A} → x ∷ l ≡ y ∷ m → x ≡ y
-head-is e = cc
+  paired-off : (a : Wrote) (r : Got) → sameValue y z && sameTells t u ≡ false → differs ≡ paired (afterPut y t a) (afterTook z u r)
+  unfolding alike
+  paired-off (wrote v zs ts) (got e xs us) h = rw (first-fails (sameValue y z) (sameTells t u) (alike sameValue zs xs) (alike sameTells ts us) h)
+  paired-off (wrote v zs ts) (noRead i n) h = refl
+  paired-off (noWrite i n) r h = refl
 
-tail-is : {A : Type 0} {x y : A} {l m : List A} → x ∷ l ≡ y ∷ m → l ≡ m
-tail-is e = cc
+  paired-first : (b : Bool) (x : Pairs) (a : Wrote) (r : Got) → sameValue y z && sameTells t u ≡ b → x ≡ paired a r
+      → cond b x differs ≡ paired (afterPut y t a) (afterTook z u r)
+  paired-first true x a r e p = p ∙ paired-on a r e
+  paired-first false x a r e p = paired-off a r e
 
-pair-agreed : (k : Kind) (u v : Value k) (w : Wr) (d : Reader) (more : Wr → Reader → Pairs) → symbol k u ≡ symbol k v → tellsR d ≡ tellsW (w .st)
-    → pairBy (countPut k (put u w)) (countTook k (took v d)) more ≡ more w d
-pair-agreed k u v w d more p q =
-    let e : countOf k u ≡ countOf k v = ap (λ (y : Symbol). countOf (y .kind) (y .value)) p in
-    rw (eq-eqb (countOf k u) (countOf k v) e, tells-equal (tellsW (w .st)) (tellsR d) q)
+not-read : (y : Symbol) (t : Tells) (a : Wrote) (n : ℕ) → differs ≡ paired (afterPut y t a) (noRead 0 n)
+not-read y t (wrote v zs ts) n = refl
+not-read y t (noWrite i k) n = refl
 
-pair-one : (k : Kind) (u v : Value k) (w : Wr) (d : Reader) {x : Put (Value k)} {y : Took (Value k)} (more : Wr → Reader → Pairs) → x ≡ put u w → y ≡ took v d
-    → symbol k u ≡ symbol k v → tellsR d ≡ tellsW (w .st) → pairBy (countPut k x) (countTook k y) more ≡ more w d
-pair-one k u v w d more a b p q = rw (a, b) (pair-agreed k u v w d more p q)
+pair-both : (k : Kind) (x : Put (Value k)) (z : Took (Value k)) (f : Wr → Reader → Pairs) (g : Wr → Wrote) (h : Reader → Got)
+    → ((w : Wr) (d : Reader) → f w d ≡ paired (g w) (h d)) → pairBy (countPut k x) (countTook k z) f ≡ paired (putThen k x g) (tookThen k z h)
+pair-both k (put u w) (took v d) f g h p = paired-first (symbol k u) (symbol k v) (tellsW (w .st)) (tellsR d) _ (f w d) (g w) (h d) refl (p w d)
+pair-both k (put u w) (noTook n) f g h p = not-read (symbol k u) (tellsW (w .st)) (g w) n
+pair-both k (noPut n) z f g h p = refl
 
-pub pair-same : (l t s : List ℕ) (n i : ℕ) (w v : Wr) (d e : Reader) (zs : List Symbol) (ts : List Tells) → writeAll (symbolsFrom l t n i) w ≡ wrote v zs ts
-    → readAll (kinds (symbolsFrom l t n i)) s d ≡ got e zs ts → pairFrom l t s n i w d ≡ same v e
-unfolding pairFrom symbolsFrom writeAll readAll kinds putSymbol takeSymbol
-pair-same l t s zero i w v d e zs ts p q =
-    let a : w ≡ v = cc in
-    let b : d ≡ e = cc in
-    rw (a, b)
-pair-same l t s (suc n) i w v d e zs ts p q =
+-- the code, which writes a second time beside the reader and stops at the first difference, compares these rows
+pub pairs-are : (l t s : List ℕ) (n i : ℕ) (w : Wr) (d : Reader) → pairFrom l t s n i w d ≡ paired (writeAll (symbolsFrom l t n i) w) (readAll (kinds (symbolsFrom l t n i)) s d)
+unfolding pairFrom symbolsFrom writeAll readAll kinds putSymbol takeSymbol alike
+pairs-are l t s zero i w d = refl
+pairs-are l t s (suc n) i w d =
     let y = symbolOf (givenAt l i) t in
-    let a = went (y .kind) (writeCall (y .kind) (y .value) w) (writeAll (symbolsFrom l t n (suc i))) v zs ts p in
-    let b = came (y .kind) (readCall (y .kind) s d) (readAll (kinds (symbolsFrom l t n (suc i))) s) e zs ts q in
-    let f = sym (a .rest .symbols) ∙ b .symbols in
-    let g = sym (b .tells) ∙ a .rest .tells in
-    let h : b .zs₁ ≡ a .rest .zs₁ = tail-is (sym f) in
-    let k : b .ts₁ ≡ a .rest .ts₁ = tail-is g in
-    pair-one (y .kind) (a .value) (b .value) (a .next) (b .next) (pairFrom l t s n (suc i)) (a .call) (b .call) (head-is f) (head-is g)
-    ∙ pair-same l t s n (suc i) (a .next) v (b .next) e (a .rest .zs₁) (a .rest .ts₁) (a .rest .rests) (rw (h, k) at (b .rests))
+    pair-both (y .kind) (writeCall (y .kind) (y .value) w) (readCall (y .kind) s d) (pairFrom l t s n (suc i)) (writeAll (symbolsFrom l t n (suc i))) (readAll (kinds (symbolsFrom l t n (suc i))) s) (pairs-are l t s n (suc i))
+
+-- by the code's answer
+module _ (q : Numbers) (offsets caps : List ℤ) (y : WrittenAllocation) (m : Lists) (s : List ℕ) where
+  pub row-same : (a : Wrote) (r : Got) (v : Wr) (e : Reader) → same v e ≡ paired a r → rowAgrees q offsets caps y m s a r ≡ sharesAgree q offsets caps y m s e
+  row-same (wrote w zs ts) (got d xs us) v e p = go (alike sameValue zs xs && alike sameTells ts us) p
+    where
+      go : (b : Bool) → same v e ≡ cond b (same w d) differs → (b && sharesAgree q offsets caps y m s d) ≡ sharesAgree q offsets caps y m s e
+      go true p = let z : d ≡ e = cc in ap (λ (x : Reader). sharesAgree q offsets caps y m s x) z
+      go false p = let z : _≡_ {A = ℕ} 0 1 = cc in absurd (omega arith)
+  row-same (wrote w zs ts) (noRead i n) v e p = let z : _≡_ {A = ℕ} 0 1 = cc in absurd (omega arith)
+  row-same (noWrite i n) r v e p = let z : _≡_ {A = ℕ} 0 1 = cc in absurd (omega arith)
+
+  pub row-differs : (a : Wrote) (r : Got) → differs ≡ paired a r → rowAgrees q offsets caps y m s a r ≡ false
+  row-differs (wrote w zs ts) (got d xs us) p = go (alike sameValue zs xs && alike sameTells ts us) p
+    where
+      go : (b : Bool) → differs ≡ cond b (same w d) differs → (b && sharesAgree q offsets caps y m s d) ≡ false
+      go true p = let z : _≡_ {A = ℕ} 0 1 = cc in absurd (omega arith)
+      go false p = refl
+  row-differs (wrote w zs ts) (noRead i n) p = refl
+  row-differs (noWrite i n) r p = refl

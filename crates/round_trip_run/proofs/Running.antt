@@ -24,9 +24,10 @@ use Rattle.round_trip_run.specs.declared.rows.Pairs.{Pairs as PairsAnswe
 use Rattle.round_trip_run.specs.declared.rows.Pairs.the-variants as pairs
 use Rattle.round_trip_run.specs.Given.{givenAt, symbolOf}
 use Rattle.round_trip_run.specs.Steps.{putIs, putSymbol, takeSymbol, tookIs}
-use Rattle.round_trip_run.specs.Runs.{Pairs, Ran, pairBy, pairFrom, pairOf, pairsIs, ranBy, runFrom, sameTells, sameTold}
+use Rattle.round_trip_run.specs.Runs.{Pairs, Ran, pairBy, pairFrom, pairOf, pairsIs, ranBy, runFrom}
 use Rattle.round_trip_run.specs.Runs.Ran.{ran, noRan}
 use Rattle.round_trip_run.specs.Runs.Pairs.{same, differs}
+use Rattle.round_trip_run.specs.Same.{sameTells, sameTold}
 
 -- ---- one symbol's answers
 

@@ -11,7 +11,7 @@ use lib.Seq.{drop-cons, take-all, take-suc, take-suc-set}
 use borrow.Author.Tests.{le-leb}
 use Rattle.rate.specs.declared.ReadAllocation.{ReadAllocation}
 use Rattle.rate.specs.declared.WrittenAllocation.{WrittenAllocation}
-use Rattle.round_trip_run.specs.Shares.{sameInt, sameInts, sameNumbers}
+use Rattle.round_trip_run.specs.Same.{alike, sameInt, sameInts, sameNumbers}
 
 -- ---- what is equal is told the same
 
@@ -19,10 +19,13 @@ pub int-same : (z : ℤ) → sameInt z z ≡ true
 int-same (pos n) = rw (le-leb n n (omega arith))
 int-same (negsuc n) = rw (le-leb n n (omega arith))
 
+pub alike-self : {A : Type 0} (same : A → A → Bool) → ((x : A) → same x x ≡ true) → (l : List A) → alike same l l ≡ true
+unfolding alike
+alike-self same h [] = refl
+alike-self same h (x ∷ l) = rw (h x) (alike-self same h l)
+
 pub ints-same : (l : List ℤ) → sameInts l l ≡ true
-unfolding sameInts
-ints-same [] = refl
-ints-same (z ∷ l) = rw (int-same z) (ints-same l)
+ints-same l = alike-self sameInt int-same l
 
 pub numbers-same : (y : WrittenAllocation) (x : ReadAllocation) → x .coded ≡ y .coded → x .balance ≡ y .balance → x .intensity ≡ y .intensity → x .dual ≡ y .dual
     → sameNumbers y x ≡ true
@@ -32,7 +35,7 @@ numbers-same y x p q r s = rw (p, q, r, s, int-same (y .coded), int-same (y .bal
 
 module _ (x y : List ℤ) (e : length y ≡ length x) (i : ℕ) where
   ints-step : i < length x → sameInts (drop i x) (drop i y) ≡ (sameInt (getD x i (pos 0)) (getD y i (pos 0)) && sameInts (drop (i + 1) x) (drop (i + 1) y))
-  unfolding sameInts
+  unfolding alike
   ints-step h =
       let k : i < length y = omega arith in
       rw (add-one, drop-cons x i (pos 0) h, drop-cons y i (pos 0) k)
@@ -45,7 +48,7 @@ module _ (x y : List ℤ) (e : length y ≡ length x) (i : ℕ) where
     ints-no t = let q : sameInt (getD x i (pos 0)) (getD y i (pos 0)) ≡ false = sym p ∙ t in rw q at (sym (ints-step h) ∙ k)
 
   pub ints-end : {r : Bool} → length x ≤ i → sameInts (drop i x) (drop i y) ≡ r → true ≡ r
-  unfolding sameInts
+  unfolding alike
   ints-end h k =
       let n : length y ≤ i = omega arith in
       rw (drop-of-length-le x h, drop-of-length-le y n) at k

@@ -1,12 +1,15 @@
--- Symbols as they are lent, and the symbols that they are.
-use Prim.Native.Nat.{ℕ, zero, suc, _+_, _*_, _/_}
-use mathlib.Core.Bool.{cond}
+-- What is lent and what it is: symbols, and what an encoder is told. Which symbols are refused, by document 01, "When the answer is no".
+use Prim.Native.Nat.{ℕ, zero, suc, _+_, _*_, _/_, _%_}
+use mathlib.Core.Bool.{Bool, true, cond, not, _&&_, _||_}
 use mathlib.Core.List.{List, [], _∷_}
-use lib.Dec.{eqb}
+use lib.Dec.{eqb, leb}
 use lib.ListN.{getD, length, take, drop}
+use Rattle.entcode.specs.Refusal.{refusal}
 use Rattle.laplace.specs.Model.{valueAt}
 use Rattle.round_trip.specs.Calls.{Symbol, symbol}
 use Rattle.round_trip.specs.Calls.Kind.{bit, table, uniform, raw, laplace}
+use Rattle.rate.specs.Question.{Wishes, wishes}
+use Rattle.round_trip_run.specs.declared.Wishes.{Wishes as Wished}
 use Rattle.round_trip_run.specs.declared.given.Given.{Given}
 
 -- symbol i of a list with five numbers for each
@@ -20,7 +23,8 @@ givenAt l i =
       third = getD l (5 * i + 4) 0;
     }
 
--- kinds 2, a uniform number below `first`; 3, `first` raw bits; any other, a Laplace value of the pair `first`, `second`
+-- kinds 2, a uniform number below `first`; 3, `first` raw bits; else a Laplace value of the pair `first`, `second`, which is 4 where no refusal comes first. The
+-- numbers that a kind does not name here are not looked at
 unfoldable pub laterOf : Given → Symbol
 laterOf g =
     cond (eqb (g .kind) 2) (symbol (uniform (g .first)) (g .count))
@@ -40,3 +44,27 @@ symbolsFrom l tables (suc n) i = symbolOf (givenAt l i) tables ∷ symbolsFrom l
 -- all of them
 abbrev pub symbolsOf : List ℕ → List ℕ → List Symbol
 symbolsOf l tables = symbolsFrom l tables (length l / 5) 0
+
+-- ---- which are refused
+
+-- a kind there is, and a table symbol's entries end where the tables do or before: `room` entries are lent (1)
+abbrev pub givenOk : ℕ → Given → Bool
+givenOk room g = leb (g .kind) 4 && (not (eqb (g .kind) 1) || leb (g .second + g .third) room)
+
+-- n symbols, from symbol i on
+unfoldable pub givensOk : List ℕ → ℕ → ℕ → ℕ → Bool
+givensOk l room zero i = true
+givensOk l room (suc n) i = givenOk room (givenAt l i) && givensOk l room n (suc i)
+
+-- five numbers for each symbol (2)
+abbrev pub fives : List ℕ → Bool
+fives l = eqb (length l % 5) 0
+
+-- the number of the refusal, 0 for none
+unfoldable pub refusalGiven : List ℕ → List ℕ → ℕ
+refusalGiven l tables = refusal (fives l) (givensOk l (length tables) (length l / 5) 0) true 0 true true
+
+-- ---- what an encoder is told
+
+abbrev pub wishesOf : Wished → Wishes
+wishesOf h = wishes (h .intensity) (h .dual) (h .previous) (h .bandwidth)

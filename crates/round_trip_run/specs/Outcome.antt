@@ -1,17 +1,21 @@
--- How a trip ends. The definition looks at what is written alone: that the reader then agrees is the theorem of round_trip.
-use Prim.Native.Nat.{ℕ}
-use mathlib.Core.Bool.{cond}
+-- How a trip ends: what the public call answers.
+use Prim.Native.Nat.{ℕ, zero, suc}
+use mathlib.Core.Path.{_≡_}
+use mathlib.Core.Bool.{Bool, true, cond}
 use mathlib.Core.List.{List}
-use lib.IntN.{ℤ, pos}
-use lib.ListN.{length, replicate}
+use lib.IntN.{ℤ}
+use lib.ListN.{length}
+use Rattle.laws.specs.Lists.{Bytes}
+use Rattle.entenc.specs.declared.Writer.{Writer}
 use Rattle.entenc.specs.declared.Answer.{Answer}
 use Rattle.entenc.specs.declared.Answer.the-variants as written
 use Rattle.entenc.specs.Answer.{closing, startOf}
 use Rattle.entenc.specs.Write.{wr}
 use Rattle.rate.specs.declared.Numbers.{Numbers}
+use Rattle.rate.specs.declared.WrittenAllocation.{WrittenAllocation}
 use Rattle.rate.specs.declared.AllocWrote.{AllocWrote}
 use Rattle.rate.specs.declared.AllocWrote.the-variants as allocWritten
-use Rattle.rate.specs.Question.{Lists, Wishes, lists}
+use Rattle.rate.specs.Question.{Lists, Wishes}
 use Rattle.rate.specs.Answer.{writing}
 use Rattle.round_trip.specs.Calls.{Symbol}
 use Rattle.round_trip.specs.Rows.{Wrote, writeAll}
@@ -19,35 +23,59 @@ use Rattle.round_trip.specs.Rows.Wrote.{wrote, noWrite}
 use Rattle.round_trip_run.specs.declared.Call.the-variants as call
 use Rattle.round_trip_run.specs.declared.Outcome.{Outcome}
 use Rattle.round_trip_run.specs.declared.Outcome.the-variants as outcome
+use Rattle.round_trip_run.specs.declared.Trip.{Trip}
+use Rattle.round_trip_run.specs.declared.Trip.the-variants as trip
+use Rattle.round_trip_run.specs.ReadBack.{agrees, blank}
 
--- the lists that are lent for an allocation
-abbrev pub zeros : List ℤ
-zeros = replicate 21 (pos 0)
+-- ---- the writer's side; `reads` is what a reader says of the packet
 
-abbrev pub blank : Lists
-blank = lists zeros zeros zeros
+-- after a close that left these bytes: NotClosed where it set the error mark
+abbrev pub closeOutcome : (List ℕ → Bool) → Answer → List ℕ → Outcome
+closeOutcome reads (written.Next u) s = cond (u .sink .error) outcome.NotClosed (cond (reads s) outcome.Agreed outcome.Disagreed)
+closeOutcome reads (written.Refused n) s = outcome.Refused call.Close n
 
--- after a close: NotClosed where it set the error mark
-abbrev pub closeOutcome : Answer → Outcome
-closeOutcome (written.Next w) = cond (w .sink .error) outcome.NotClosed outcome.Agreed
-closeOutcome (written.Refused n) = outcome.Refused call.Close n
-
--- after the allocation, which left these bytes
-abbrev pub allotOutcome : AllocWrote → List ℕ → Outcome
-allotOutcome (allocWritten.Got y) bytes = closeOutcome (closing (wr (y .next) bytes) .said)
-allotOutcome (allocWritten.Refused n) bytes = outcome.Refused call.Allocation n
+-- after the allocation, which left these lists and bytes
+abbrev pub allotOutcome : (WrittenAllocation → Lists → List ℕ → Bool) → AllocWrote → Lists → List ℕ → Outcome
+allotOutcome reads (allocWritten.Got y) m bytes = closeOutcome (reads y m) (closing (wr (y .next) bytes) .said) (closing (wr (y .next) bytes) .bytes)
+allotOutcome reads (allocWritten.Refused n) m bytes = outcome.Refused call.Allocation n
 
 module _ (q : Numbers) (offsets caps : List ℤ) (h : Wishes) where
-  -- after the symbols
-  abbrev pub rowOutcome : Wrote → Outcome
-  rowOutcome (wrote w zs ts) = allotOutcome (writing q h offsets caps w blank .said) (writing q h offsets caps w blank .bytes)
-  rowOutcome (noWrite i n) = outcome.Refused (call.Symbol i) n
+  -- after the symbols, which began with the new writer w
+  abbrev pub rowOutcome : (Writer → Wrote → WrittenAllocation → Lists → List ℕ → Bool) → Writer → Wrote → Outcome
+  rowOutcome reads w (wrote v zs ts) =
+      allotOutcome (reads w (wrote v zs ts)) (writing q h offsets caps v blank .said) (writing q h offsets caps v blank .lent) (writing q h offsets caps v blank .bytes)
+  rowOutcome reads w (noWrite i n) = outcome.Refused (call.Symbol i) n
 
   -- after a new writer over the bytes
-  abbrev pub newOutcome : List ℕ → List Symbol → Answer → Outcome
-  newOutcome bytes ys (written.Next w) = rowOutcome (writeAll ys (wr w bytes))
-  newOutcome bytes ys (written.Refused n) = outcome.Refused call.New n
+  abbrev pub newOutcome : (Writer → Wrote → WrittenAllocation → Lists → List ℕ → Bool) → List ℕ → List Symbol → Answer → Outcome
+  newOutcome reads bytes ys (written.Next w) = rowOutcome reads w (writeAll ys (wr w bytes))
+  newOutcome reads bytes ys (written.Refused n) = outcome.Refused call.New n
 
-  -- of bytes and symbols
+  -- ---- the trip
+
+  -- of bytes and symbols: written, closed, read back and compared
   abbrev pub outcomeOf : List ℕ → List Symbol → Outcome
-  outcomeOf bytes ys = newOutcome bytes ys (startOf (length bytes))
+  outcomeOf bytes ys = newOutcome (agrees q offsets caps ys) bytes ys (startOf (length bytes))
+
+  -- the writer's side alone, with no reader asked
+  abbrev pub writtenOutcome : List ℕ → List Symbol → Outcome
+  writtenOutcome bytes ys = newOutcome (λ w a y m s. true) bytes ys (startOf (length bytes))
+
+-- with the number of the refusal of what was lent, 0 for none
+unfoldable pub tripOf : ℕ → Outcome → Trip
+tripOf zero o = trip.Ended o
+tripOf (suc n) o = trip.Refused (suc n)
+
+-- ---- theorems, by the theorem of round_trip
+
+-- over bytes, the trip ends as the writer's side alone says
+abbrev pub ReaderAgrees : Type 0
+ReaderAgrees =
+    (q : Numbers) (offsets caps : List ℤ) (h : Wishes) (bytes : List ℕ) (ys : List Symbol) → Bytes bytes
+    → outcomeOf q offsets caps h bytes ys ≡ writtenOutcome q offsets caps h bytes ys
+
+-- so the reader never disagrees
+abbrev pub NeverDisagreed : Type 0
+NeverDisagreed =
+    (q : Numbers) (offsets caps : List ℤ) (h : Wishes) (bytes : List ℕ) (ys : List Symbol) → Bytes bytes
+    → outcomeOf q offsets caps h bytes ys ≡ outcome.Disagreed → ⊥

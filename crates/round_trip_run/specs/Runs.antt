@@ -1,13 +1,11 @@
 -- Rows as the code goes through them, by places: the writer alone, then a writer that writes once more beside the reader.
 use Prim.Native.Nat.{ℕ, zero, suc}
-use mathlib.Core.Bool.{Bool, false, cond, _&&_}
+use mathlib.Core.Bool.{cond, _&&_}
 use mathlib.Core.List.{List}
 use lib.Dec.{eqb}
-use Rattle.entcode.specs.declared.Told.{Told}
-use Rattle.entcode.specs.declared.Told.the-variants.{Used, Refused}
 use Rattle.entdec.specs.declared.Reader.{Reader}
 use Rattle.entenc.specs.Write.{Wr, wr}
-use Rattle.round_trip.specs.Calls.{Put, Took, Tells, tellsR, tellsW}
+use Rattle.round_trip.specs.Calls.{Put, Took, tellsR, tellsW}
 use Rattle.round_trip.specs.Calls.Put.{put, noPut}
 use Rattle.round_trip.specs.Calls.Took.{took, noTook}
 use Rattle.round_trip_run.specs.declared.writes.Put.{Put as PutAnswer}
@@ -19,6 +17,7 @@ use Rattle.round_trip_run.specs.declared.rows.Row.the-variants as row
 use Rattle.round_trip_run.specs.declared.rows.Pairs.{Pairs as PairsAnswer}
 use Rattle.round_trip_run.specs.declared.rows.Pairs.the-variants as pairs
 use Rattle.round_trip_run.specs.Given.{givenAt, symbolOf}
+use Rattle.round_trip_run.specs.Same.{sameTells}
 use Rattle.round_trip_run.specs.Steps.{putSymbol, takeSymbol}
 
 -- ---- the writer alone
@@ -43,16 +42,6 @@ rowIs (row.Wrote w) bytes = ran (wr w bytes)
 rowIs (row.Refused i n) bytes = noRan i n
 
 -- ---- writer and reader side by side
-
--- two answers of tell
-abbrev pub sameTold : Told → Told → Bool
-sameTold (Used m) (Used n) = eqb m n
-sameTold (Used m) (Refused n) = false
-sameTold (Refused m) (Used n) = false
-sameTold (Refused m) (Refused n) = eqb m n
-
-abbrev pub sameTells : Tells → Tells → Bool
-sameTells a b = sameTold (a .bits) (b .bits) && sameTold (a .eighths) (b .eighths)
 
 -- writer and reader after a row in which they agreed
 pub data Pairs : Type 0 where

@@ -1,4 +1,4 @@
-// The reader's side of a trip. Every answer is shown to be yes, by the theorem of round_trip.
+// The reader's side of a trip: reads the packet and compares it with what was written.
 use super::rows;
 use super::rows::Pairs;
 use super::shares;
@@ -10,14 +10,16 @@ use rate::Numbers;
 use rate::ReadAllocation;
 use rate::WrittenAllocation;
 ghost use mathlib.Core.Path.{_≡_};
-ghost use mathlib.Core.Bool.{true, _&&_};
+ghost use mathlib.Core.Bool.{_&&_};
+ghost use Prim.Native.Nat.{_≤_};
 ghost use lib.ListN.{length};
+ghost use Rattle.entenc.specs.Write.{wr};
 ghost use Rattle.rate.specs.Question.{lists};
 ghost use Rattle.round_trip.specs.Calls.{tellsR, tellsW};
+ghost use Rattle.round_trip.specs.Rows.{kinds, readAll, writeAll};
 ghost use Rattle.round_trip_run.specs.Given.{symbolsOf};
-ghost use Rattle.round_trip_run.specs.Runs.{sameTells};
-ghost use Rattle.round_trip_run.specs.Shares.{sameInts, sameNumbers};
-ghost use Rattle.round_trip_run.specs.Sends.{ReadBy, SentBy, SharedBy};
+ghost use Rattle.round_trip_run.specs.ReadBack.{agrees, rowAgrees, sharesAgree};
+ghost use Rattle.round_trip_run.specs.Same.{sameInts, sameNumbers, sameTells};
 
 // Are two allocations and what is told after them the same?
 fn same_answers(
@@ -56,8 +58,8 @@ fn same_shares(
     fine: &[i32],
     priorities: &[i32],
 ) -> bool
-    requires { ⌜ SharedBy q (now offsets) (now caps) y (lists (now pulses) (now fine) (now priorities)) (now s) e ⌝ }
-    ensures { λ r. ⌜ r ≡ true ⌝ }
+    requires { ⌜ (length (now pulses) ≡ 21) × (length (now fine) ≡ 21) × (length (now priorities) ≡ 21) ⌝ }
+    ensures { λ r. ⌜ r ≡ sharesAgree q (now (offsets .entry)) (now (caps .entry)) y (lists (now (pulses .entry)) (now (fine .entry)) (now (priorities .entry))) (now (s .entry)) e ⌝ }
 {
     let mut pulses2 = [0i32; 21];
     let mut fine2 = [0i32; 21];
@@ -103,8 +105,11 @@ fn read_on(
     fine: &[i32],
     priorities: &[i32],
 ) -> bool
-    requires { ⌜ ReadBy (symbolsOf (now symbols) (now tables)) q (now offsets) (now caps) (now buf) w y (lists (now pulses) (now fine) (now priorities)) (now s) d ⌝ }
-    ensures { λ r. ⌜ r ≡ true ⌝ }
+    requires { ⌜ (length (now pulses) ≡ 21) × (length (now fine) ≡ 21) × (length (now priorities) ≡ 21) ⌝ }
+    ensures { λ r.
+        ⌜ r ≡ (sameTells (tellsW w) (tellsR d)
+        && rowAgrees q (now (offsets .entry)) (now (caps .entry)) y (lists (now (pulses .entry)) (now (fine .entry)) (now (priorities .entry))) (now (s .entry))
+        (writeAll (symbolsOf (now (symbols .entry)) (now (tables .entry))) (wr w (now (buf .entry)))) (readAll (kinds (symbolsOf (now (symbols .entry)) (now (tables .entry)))) (now (s .entry)) d)) ⌝ }
 {
     let first = rows::same_tells(w, d);
     let answer = rows::pair_row(w, buf, d, s, symbols, tables);
@@ -133,8 +138,9 @@ fn read_back(
     fine: &[i32],
     priorities: &[i32],
 ) -> bool
-    requires { ⌜ (length (now buf) ≡ length (now bytes)) × SentBy (symbolsOf (now symbols) (now tables)) q (now offsets) (now caps) (now bytes) w y (lists (now pulses) (now fine) (now priorities)) (now s) ⌝ }
-    ensures { λ r. ⌜ r ≡ true ⌝ }
+    requires { ⌜ (length (now buf) ≡ length (now bytes)) × (length (now pulses) ≡ 21) × (length (now fine) ≡ 21) × (length (now priorities) ≡ 21) ⌝ }
+    ensures { λ r.
+        ⌜ r ≡ agrees q (now (offsets .entry)) (now (caps .entry)) (symbolsOf (now (symbols .entry)) (now (tables .entry))) w (writeAll (symbolsOf (now (symbols .entry)) (now (tables .entry))) (wr w (now (bytes .entry)))) y (lists (now (pulses .entry)) (now (fine .entry)) (now (priorities .entry))) (now (s .entry)) ⌝ }
 {
     shares::copy(bytes, buf);
     let answer = Reader::new(s);
@@ -173,8 +179,9 @@ pub fn compare(
     fine: &[i32],
     priorities: &[i32],
 ) -> bool
-    requires { ⌜ SentBy (symbolsOf (now symbols) (now tables)) q (now offsets) (now caps) (now bytes) w y (lists (now pulses) (now fine) (now priorities)) (now s) ⌝ }
-    ensures { λ r. ⌜ r ≡ true ⌝ }
+    requires { ⌜ (length (now bytes) ≤ 1275) × (length (now pulses) ≡ 21) × (length (now fine) ≡ 21) × (length (now priorities) ≡ 21) ⌝ }
+    ensures { λ r.
+        ⌜ r ≡ agrees q (now (offsets .entry)) (now (caps .entry)) (symbolsOf (now (symbols .entry)) (now (tables .entry))) w (writeAll (symbolsOf (now (symbols .entry)) (now (tables .entry))) (wr w (now (bytes .entry)))) y (lists (now (pulses .entry)) (now (fine .entry)) (now (priorities .entry))) (now (s .entry)) ⌝ }
 {
     let n = bytes.len();
     let mut room = [0u8; 1275];

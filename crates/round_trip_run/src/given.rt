@@ -3,7 +3,7 @@ ghost use mathlib.Core.Path.{_≡_};
 ghost use Prim.Native.Nat.{_/_, _<_};
 ghost use lib.ListN.{length, take, drop};
 ghost use Rattle.laplace.specs.Model.{codeOf, valueAt};
-ghost use Rattle.round_trip_run.specs.Given.{givenAt};
+ghost use Rattle.round_trip_run.specs.Given.{givenAt, givenOk, givensOk, refusalGiven};
 
 // A symbol: its kind, the count of its value, and up to three numbers that the kind has.
 pub struct Given {
@@ -27,6 +27,41 @@ pub fn given_at(symbols: &[u32], i: usize) -> Given
         second: symbols[k + 3],
         third: symbols[k + 4],
     }
+}
+
+// Is the symbol's kind one there is, and a table's part within the entries that are lent?
+fn given_ok(room: usize, g: Given) -> bool
+    ensures { λ r. ⌜ r ≡ givenOk room g ⌝ }
+{
+    let end = g.second as usize + g.third as usize;
+    (g.kind <= 4) & ((g.kind != 1) | (end <= room))
+}
+
+// Are all symbols?
+fn givens_ok(symbols: &[u32], room: usize) -> bool
+    ensures { λ r. ⌜ r ≡ givensOk (now (symbols .entry)) room (length (now (symbols .entry)) / 5) 0 ⌝ }
+{
+    let n = symbols.len() / 5;
+    let mut i: usize = 0;
+    while i < n {
+        let g = given_at(symbols, i);
+        if !given_ok(room, g) {
+            return false;
+        }
+        i += 1;
+    }
+    true
+}
+
+// The number of the refusal of lent symbols, 0 for none: the length before any entry is read.
+pub fn refusal(symbols: &[u32], tables: &[u8]) -> u32
+    ensures { λ r. ⌜ r ≡ refusalGiven (now (symbols .entry)) (now (tables .entry)) ⌝ }
+{
+    if symbols.len() % 5 == 0 {
+        let known = givens_ok(symbols, tables.len());
+        return entcode::refusal_of(true, known, true, 0, true, true);
+    }
+    entcode::refusal_of(false, true, true, 0, true, true)
 }
 
 // A table's entries: count of them, from a place on, as far as the list goes.

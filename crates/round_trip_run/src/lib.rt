@@ -3,9 +3,8 @@ use entenc::Answer;
 use entenc::Writer;
 use rate::Numbers;
 ghost use mathlib.Core.Path.{_≡_};
-ghost use Rattle.round_trip_run.specs.Given.{symbolsOf};
-ghost use Rattle.round_trip_run.specs.Outcome.{outcomeOf};
-ghost use Rattle.round_trip_run.specs.Shares.{wishesOf};
+ghost use Rattle.round_trip_run.specs.Given.{refusalGiven, symbolsOf, wishesOf};
+ghost use Rattle.round_trip_run.specs.Outcome.{outcomeOf, tripOf};
 
 pub mod back;
 pub mod given;
@@ -40,10 +39,14 @@ pub enum Outcome {
     Disagreed,
 }
 
-// Writes symbols and an allocation over the bytes, closes, reads all back and compares: values, tell and tell_frac after each symbol, and the
-// allocation's numbers and lists. A symbol is five numbers: its kind (0 bit, 1 table, 2 uniform, 3 raw, else Laplace), the count of its value,
-// and the kind's numbers; a table's entries are a part of `tables`.
-pub fn round_trip(
+// What the call answers: how the trip ended, or the number of the refusal where what is lent is no list of symbols.
+pub enum Trip {
+    Ended(Outcome),
+    Refused(u32),
+}
+
+// The trip of symbols that are given as they should be.
+fn run(
     bytes: &[u8],
     symbols: &[u32],
     tables: &[u8],
@@ -63,4 +66,29 @@ pub fn round_trip(
             Outcome::Refused(by, no)
         }
     }
+}
+
+// Writes symbols and an allocation over the bytes, closes, reads all back and compares: values, tell and tell_frac after each symbol, and the
+// allocation's numbers and lists. A symbol is five numbers: its kind (0 bit, 1 table, 2 uniform, 3 raw, 4 Laplace), the count of its value,
+// and the kind's numbers, of which those that the kind has no use for are not looked at; a table's entries are a part of `tables`. Refused, before
+// anything is written: 2 where the list is not five numbers for each symbol, 1 where a kind is above 4 or a table ends past `tables`.
+pub fn round_trip(
+    bytes: &[u8],
+    symbols: &[u32],
+    tables: &[u8],
+    q: Numbers,
+    h: Wishes,
+    offsets: &[i32],
+    caps: &[i32],
+) -> Trip
+    ensures { λ r.
+        ⌜ r ≡ tripOf (refusalGiven (now (symbols .entry)) (now (tables .entry)))
+        (outcomeOf q (now (offsets .entry)) (now (caps .entry)) (wishesOf h) (now (bytes .entry)) (symbolsOf (now (symbols .entry)) (now (tables .entry)))) ⌝ }
+{
+    let no = given::refusal(symbols, tables);
+    if no == 0 {
+        let outcome = run(bytes, symbols, tables, q, h, offsets, caps);
+        return Trip::Ended(outcome);
+    }
+    Trip::Refused(no)
 }

@@ -22,8 +22,9 @@ ghost use Rattle.round_trip_run.specs.declared.writes.Put.the-variants.{
 ghost use Rattle.entcode.specs.declared.Told.the-variants.{Used, Refused};
 ghost use Rattle.round_trip_run.specs.Given.{symbolOf};
 ghost use Rattle.round_trip_run.specs.Steps.{putSymbol, takeSymbol};
-ghost use Rattle.round_trip_run.specs.Runs.{pairBy, pairFrom, pairOf, pairsIs, rowIs, runFrom, sameTells, sameTold};
+ghost use Rattle.round_trip_run.specs.Runs.{pairBy, pairFrom, pairOf, pairsIs, rowIs, runFrom};
 ghost use Rattle.round_trip_run.specs.Runs.Pairs.{same};
+ghost use Rattle.round_trip_run.specs.Same.{sameTells, sameTold};
 
 // The writer after a row, or the place and the number of the refusal.
 pub enum Row {

@@ -13,6 +13,7 @@ use rate::Numbers;
 use rate::WrittenAllocation;
 ghost use mathlib.Core.Path.{_≡_};
 ghost use mathlib.Core.Bool.{cond};
+ghost use Prim.Native.Nat.{_≤_};
 ghost use lib.ListN.{length};
 ghost use Rattle.entenc.specs.Write.{wr};
 ghost use Rattle.entenc.specs.Answer.{closing, startOf};
@@ -20,11 +21,10 @@ ghost use Rattle.entenc.specs.declared.Answer.the-variants.{Next};
 ghost use Rattle.rate.specs.Answer.{writing};
 ghost use Rattle.rate.specs.Question.{lists};
 ghost use Rattle.round_trip.specs.Rows.{writeAll};
-ghost use Rattle.round_trip_run.specs.declared.Outcome.the-variants.{Agreed, NotClosed};
-ghost use Rattle.round_trip_run.specs.Given.{symbolsOf};
-ghost use Rattle.round_trip_run.specs.Outcome.{allotOutcome, blank, closeOutcome, rowOutcome};
-ghost use Rattle.round_trip_run.specs.Shares.{wishesOf};
-ghost use Rattle.round_trip_run.specs.Sends.{RowBy, ShareBy, ShutBy};
+ghost use Rattle.round_trip_run.specs.declared.Outcome.the-variants.{Agreed, Disagreed, NotClosed};
+ghost use Rattle.round_trip_run.specs.Given.{symbolsOf, wishesOf};
+ghost use Rattle.round_trip_run.specs.Outcome.{allotOutcome, closeOutcome, rowOutcome};
+ghost use Rattle.round_trip_run.specs.ReadBack.{agrees, blank};
 
 // The packet s is closed with u; where that reported no error, it is read back.
 fn ended(
@@ -42,8 +42,10 @@ fn ended(
     fine: &[i32],
     priorities: &[i32],
 ) -> Outcome
-    requires { ⌜ ShutBy (symbolsOf (now symbols) (now tables)) q (now offsets) (now caps) (now bytes) w y (lists (now pulses) (now fine) (now priorities)) u (now s) ⌝ }
-    ensures { λ r. ⌜ r ≡ cond (u .sink .error) NotClosed Agreed ⌝ }
+    requires { ⌜ (length (now bytes) ≤ 1275) × (length (now pulses) ≡ 21) × (length (now fine) ≡ 21) × (length (now priorities) ≡ 21) ⌝ }
+    ensures { λ r.
+        ⌜ r ≡ cond (u .sink .error) NotClosed
+        (cond (agrees q (now (offsets .entry)) (now (caps .entry)) (symbolsOf (now (symbols .entry)) (now (tables .entry))) w (writeAll (symbolsOf (now (symbols .entry)) (now (tables .entry))) (wr w (now (bytes .entry)))) y (lists (now (pulses .entry)) (now (fine .entry)) (now (priorities .entry))) (now (s .entry))) Agreed Disagreed) ⌝ }
 {
     let sink = u.sink;
     if sink.error {
@@ -83,8 +85,10 @@ fn shut(
     fine: &[i32],
     priorities: &[i32],
 ) -> Outcome
-    requires { ⌜ ShareBy (symbolsOf (now symbols) (now tables)) q (now offsets) (now caps) (now bytes) w y (lists (now pulses) (now fine) (now priorities)) (now buf) ⌝ }
-    ensures { λ r. ⌜ r ≡ closeOutcome (closing (wr (y .next) (now (buf .entry))) .said) ⌝ }
+    requires { ⌜ (length (now bytes) ≤ 1275) × (length (now pulses) ≡ 21) × (length (now fine) ≡ 21) × (length (now priorities) ≡ 21) ⌝ }
+    ensures { λ r.
+        ⌜ r ≡ closeOutcome (agrees q (now (offsets .entry)) (now (caps .entry)) (symbolsOf (now (symbols .entry)) (now (tables .entry))) w (writeAll (symbolsOf (now (symbols .entry)) (now (tables .entry))) (wr w (now (bytes .entry)))) y (lists (now (pulses .entry)) (now (fine .entry)) (now (priorities .entry))))
+        (closing (wr (y .next) (now (buf .entry))) .said) (closing (wr (y .next) (now (buf .entry))) .bytes) ⌝ }
 {
     let last = y.next;
     let answer = last.close(buf);
@@ -124,9 +128,11 @@ fn allot(
     offsets: &[i32],
     caps: &[i32],
 ) -> Outcome
-    requires { ⌜ RowBy (symbolsOf (now symbols) (now tables)) (now bytes) w (wr v (now buf)) ⌝ }
+    requires { ⌜ length (now bytes) ≤ 1275 ⌝ }
     ensures { λ r.
-        ⌜ r ≡ allotOutcome (writing q (wishesOf h) (now (offsets .entry)) (now (caps .entry)) (wr v (now (buf .entry))) blank .said)
+        ⌜ r ≡ allotOutcome (agrees q (now (offsets .entry)) (now (caps .entry)) (symbolsOf (now (symbols .entry)) (now (tables .entry))) w (writeAll (symbolsOf (now (symbols .entry)) (now (tables .entry))) (wr w (now (bytes .entry)))))
+        (writing q (wishesOf h) (now (offsets .entry)) (now (caps .entry)) (wr v (now (buf .entry))) blank .said)
+        (writing q (wishesOf h) (now (offsets .entry)) (now (caps .entry)) (wr v (now (buf .entry))) blank .lent)
         (writing q (wishesOf h) (now (offsets .entry)) (now (caps .entry)) (wr v (now (buf .entry))) blank .bytes) ⌝ }
 {
     let mut pulses = [0i32; 21];
@@ -177,9 +183,9 @@ fn send(
     offsets: &[i32],
     caps: &[i32],
 ) -> Outcome
-    requires { ⌜ (startOf (length (now bytes)) ≡ Next w) × (length (now buf) ≡ length (now bytes)) ⌝ }
+    requires { ⌜ (length (now bytes) ≤ 1275) × (length (now buf) ≡ length (now bytes)) ⌝ }
     ensures { λ r.
-        ⌜ r ≡ rowOutcome q (now (offsets .entry)) (now (caps .entry)) (wishesOf h) (writeAll (symbolsOf (now (symbols .entry)) (now (tables .entry))) (wr w (now (bytes .entry)))) ⌝ }
+        ⌜ r ≡ rowOutcome q (now (offsets .entry)) (now (caps .entry)) (wishesOf h) (agrees q (now (offsets .entry)) (now (caps .entry)) (symbolsOf (now (symbols .entry)) (now (tables .entry)))) w (writeAll (symbolsOf (now (symbols .entry)) (now (tables .entry))) (wr w (now (bytes .entry)))) ⌝ }
 {
     shares::copy(bytes, buf);
     let row = rows::write_row(w, buf, symbols, tables);
@@ -205,7 +211,7 @@ pub fn begin(
 ) -> Outcome
     requires { ⌜ startOf (length (now bytes)) ≡ Next w ⌝ }
     ensures { λ r.
-        ⌜ r ≡ rowOutcome q (now (offsets .entry)) (now (caps .entry)) (wishesOf h) (writeAll (symbolsOf (now (symbols .entry)) (now (tables .entry))) (wr w (now (bytes .entry)))) ⌝ }
+        ⌜ r ≡ rowOutcome q (now (offsets .entry)) (now (caps .entry)) (wishesOf h) (agrees q (now (offsets .entry)) (now (caps .entry)) (symbolsOf (now (symbols .entry)) (now (tables .entry)))) w (writeAll (symbolsOf (now (symbols .entry)) (now (tables .entry))) (wr w (now (bytes .entry)))) ⌝ }
 {
     let n = bytes.len();
     let mut room = [0u8; 1275];

@@ -14,7 +14,8 @@ ghost use lib.ListN.{length};
 ghost use Rattle.entenc.specs.Write.{wr};
 ghost use Rattle.rate.specs.Question.{lists};
 ghost use Rattle.rate.specs.Answer.{afterRead, afterWritten, reading, writing};
-ghost use Rattle.round_trip_run.specs.Shares.{sameInts, sameNumbers, wishesOf};
+ghost use Rattle.round_trip_run.specs.Given.{wishesOf};
+ghost use Rattle.round_trip_run.specs.Same.{sameInts, sameNumbers};
 
 // Writes an allocation.
 pub fn write_shares(

@@ -11,7 +11,7 @@ use replay_io::input;
 use replay_io::list;
 use replay_io::list::part;
 use replay_io::list::word;
-use round_trip_run::Outcome;
+use round_trip_run::Trip;
 use round_trip_run::Wishes;
 
 // The allocation's numbers.
@@ -37,7 +37,7 @@ fn wished(l: &[i32]) -> Wishes {
 }
 
 // The trip of a line's numbers, over these bytes, tables and symbols.
-fn trip(l: &[i32], bytes: &[u8], tables: &[u8], symbols: &[u32]) -> Outcome {
+fn trip(l: &[i32], bytes: &[u8], tables: &[u8], symbols: &[u32]) -> Trip {
     let mut offsets = [0i32; 21];
     let mut caps = [0i32; 21];
     numbers::whole(numbers::after(l, 12), &mut offsets);
@@ -46,7 +46,7 @@ fn trip(l: &[i32], bytes: &[u8], tables: &[u8], symbols: &[u32]) -> Outcome {
 }
 
 // The same, over so many bytes, as many table entries as the line says, and the symbols after them.
-fn over(l: &[i32], storage: u32, entries: u32) -> Outcome {
+fn over(l: &[i32], storage: u32, entries: u32) -> Trip {
     let k = entries as usize;
     let bytes = [(word(l, 1) % 256) as u8; 1300];
     let mut tables = [0u8; 300];
@@ -69,7 +69,7 @@ fn answer(l: &[i32]) {
     if (1300 < storage) | (300 < entries) {
         return say::malformed();
     }
-    say::outcome(over(l, storage, entries))
+    say::trip(over(l, storage, entries))
 }
 
 // Answers the line in the first n bytes of its buffer.

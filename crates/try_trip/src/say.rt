@@ -1,8 +1,9 @@
-// An outcome as text.
+// A trip as text.
 use replay_io::say::numbers;
 use replay_io::say::text;
 use round_trip_run::Call;
 use round_trip_run::Outcome;
+use round_trip_run::Trip;
 
 // A line that has no meaning.
 pub fn malformed() {
@@ -27,7 +28,7 @@ fn call(by: Call) {
 }
 
 // The line of an outcome.
-pub fn outcome(r: Outcome) {
+fn outcome(r: Outcome) {
     match r {
         Outcome::Agreed => text(b"agreed\n"),
         Outcome::Refused(by, no) => {
@@ -37,5 +38,16 @@ pub fn outcome(r: Outcome) {
         }
         Outcome::NotClosed => text(b"not closed\n"),
         Outcome::Disagreed => text(b"disagreed\n"),
+    }
+}
+
+// The line of a trip.
+pub fn trip(t: Trip) {
+    match t {
+        Trip::Ended(r) => outcome(r),
+        Trip::Refused(no) => {
+            numbers(b"refused", &[no]);
+            text(b"\n");
+        }
     }
 }

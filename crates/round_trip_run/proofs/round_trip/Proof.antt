@@ -1,28 +1,21 @@
--- `round_trip_run::round_trip`. Assumes nothing.
+-- `round_trip_run::round_trip`: the gate, then the trip. Assumes nothing.
 use mathlib.Core.Path.{sym, _∙_}
 use borrow.Author.Needs.{needs}
+use Rattle.round_trip_run.proofs.Checking.{trip-ended, trip-refused}
 use Rattle.round_trip_run.proofs.round_trip.Statement.{statement}
 use Rattle.round_trip_run.proofs.round_trip.Tie as tie
 
-new-requires : tie.Need-new-requires
-new-requires c κs = search needs
+refusal-requires : tie.Need-refusal-requires
+refusal-requires c κs = search needs
 
-enum-known-answer : tie.Need-enum-known-answer
-enum-known-answer c = search needs
-
-begin-requires : tie.Need-begin-requires
-begin-requires c κs = sym (c .before .before .before .new .ensures) ∙ c .before .answer .given .1
-
-enum-known-answer-2 : tie.Need-enum-known-answer-2
-enum-known-answer-2 c = search needs
+run-requires : tie.Need-run-requires
+run-requires c κs = search needs
 
 returns : tie.Need-returns
-returns c = rw (sym (c .before .before .before .before .new .ensures) ∙ c .before .before .answer .given .1) (c .begin .ensures)
+returns c = trip-ended _ (sym (c .before .before .refusal .ensures) ∙ c .before .if1 .taken) (c .run .ensures)
 
 returns-2 : tie.Need-returns-2
-returns-2 c = rw (sym (c .before .before .before .new .ensures) ∙ c .before .answer2 .given .1)
+returns-2 c = rw (c .before .refusal .ensures) (trip-refused _ _ (λ e. c .if1 .left (c .before .refusal .ensures ∙ e)))
 
 pub round-trip-spec : {M : Type 1} → statement M
-round-trip-spec =
-    tie.close
-    (tie.spec new-requires enum-known-answer begin-requires enum-known-answer-2 returns returns-2)
+round-trip-spec = tie.close (tie.spec refusal-requires run-requires returns returns-2)

@@ -3,16 +3,17 @@
 //!
 //! A line is a letter, R where the allocation is recorded traffic and G where it is not, and numbers: the storage, the byte that fills it, C LM start end
 //! trim total intensity dual previous bandwidth, 21 offsets and 21 caps, the number of table entries and the entries, then five numbers for each
-//! symbol: its kind (0 bit, 1 table, 2 uniform number, 3 raw bits, else Laplace value), the count of its value, and what the kind has: logp; ftb,
+//! symbol: its kind (0 bit, 1 table, 2 uniform number, 3 raw bits, 4 Laplace value), the count of its value, and what the kind has: logp; ftb,
 //! the place of the table's first entry and how many it has; ft; the number of bits; fs and decay. The allocation's numbers, offsets and caps,
 //! and a Laplace value, are counted: 0, -1, 1, -2, 2, .. as 0, 1, 2, 3, 4, ..
 //!
-//! An answer says how the trip ends: `refused`, the call (new, symbol and its place, allocation, close) and the number of the refusal; `not closed` where
+//! An answer is `refused` and a number where the symbols are no list of symbols: 2 where they are not five numbers each, 1 where a kind is above 4 or a
+//! table has entries past the last. Else it says how the trip ends: `refused`, the call (new, symbol and its place, allocation, close) and the number of the refusal; `not closed` where
 //! the close left the error mark; `agreed` where the reader is refused nothing and has the values that count as written, tell and tell_frac after
 //! each call, the allocation's numbers and lists, and no error mark; else `disagreed`.
 use crate::alloc::{self, Given, Numbers};
 use crate::coder::{self, Call};
-use crate::{states, Side};
+use crate::{refusals, states, Side};
 
 /// A symbol as it stands in a line: kind, count of its value, and three numbers.
 pub type Symbol = [u32; 5];
@@ -28,6 +29,8 @@ pub struct Trip {
     pub caps: Vec<i32>,
     pub tables: Vec<u8>,
     pub symbols: Vec<Symbol>,
+    /// Numbers after the last whole symbol, fewer than five.
+    pub rest: Vec<u32>,
 }
 
 /// The count of a whole number.
@@ -41,11 +44,14 @@ fn value_at(count: u32) -> i32 {
     if count % 2 == 0 { half } else { -1 - half }
 }
 
-/// A table's entries, as far as there are any.
+/// A table's entries.
 fn entries(tables: &[u8], from: u32, count: u32) -> &[u8] {
-    let from = tables.len().min(from as usize);
-    let count = (tables.len() - from).min(count as usize);
-    &tables[from..from + count]
+    &tables[from as usize..(from + count) as usize]
+}
+
+/// Is the kind one there is, and has a table no entry past the last?
+fn given(tables: &[u8], &[kind, _, _, second, third]: &Symbol) -> bool {
+    kind <= 4 && (kind != 1 || second as u64 + third as u64 <= tables.len() as u64)
 }
 
 /// The call that writes a symbol.
@@ -55,7 +61,8 @@ pub fn put<'a>(tables: &'a [u8], &[kind, count, first, second, third]: &Symbol) 
         1 => Call::PutTable(count, entries(tables, second, third), first),
         2 => Call::PutUniform(count, first),
         3 => Call::PutRaw(count, first),
-        _ => Call::PutLaplace(value_at(count), first, second),
+        4 => Call::PutLaplace(value_at(count), first, second),
+        _ => unreachable!("no such kind is written"),
     }
 }
 
@@ -66,7 +73,8 @@ fn get<'a>(tables: &'a [u8], &[kind, _, first, second, third]: &Symbol) -> Call<
         1 => Call::GetTable(entries(tables, second, third), first),
         2 => Call::GetUniform(first),
         3 => Call::GetRaw(first),
-        _ => Call::GetLaplace(first, second),
+        4 => Call::GetLaplace(first, second),
+        _ => unreachable!("no such kind is read"),
     }
 }
 
@@ -101,7 +109,7 @@ impl Trip {
         let counted = asked.iter().chain(&self.offsets).chain(&self.caps).map(|&z| count_of(z));
         let tables = std::iter::once(self.tables.len() as u32).chain(self.tables.iter().map(|&e| e as u32));
         let head = [self.storage, self.fill as u32].into_iter();
-        let all: Vec<u32> = head.chain(counted).chain(tables).chain(self.symbols.iter().flatten().copied()).collect();
+        let all: Vec<u32> = head.chain(counted).chain(tables).chain(self.symbols.iter().flatten().chain(&self.rest).copied()).collect();
         let letter = if self.recorded { "R" } else { "G" };
         all.iter().fold(letter.to_string(), |line, v| format!("{line} {v}"))
     }
@@ -114,7 +122,6 @@ impl Trip {
         assert!(whole && n[0] <= 1300 && n[54] <= 300, "'{line}' is no request");
         let counted = |at: usize| value_at(n[at]);
         let symbols = &n[55 + n[54] as usize..];
-        assert!(symbols.len() % 5 == 0, "'{line}' is no request");
         Trip {
             recorded: letter == "R",
             storage: n[0],
@@ -126,7 +133,8 @@ impl Trip {
             offsets: (12..33).map(counted).collect(),
             caps: (33..54).map(counted).collect(),
             tables: n[55..55 + n[54] as usize].iter().map(|&e| e as u8).collect(),
-            symbols: symbols.chunks(5).map(|y| y.try_into().expect("five numbers")).collect(),
+            symbols: symbols.chunks_exact(5).map(|y| y.try_into().expect("five numbers")).collect(),
+            rest: symbols.chunks_exact(5).remainder().to_vec(),
         }
     }
 
@@ -179,8 +187,17 @@ impl Trip {
         Ok(values == sent.values && heard == sent.told && same && shares.at[10] == 0)
     }
 
+    /// The refusal of symbols that are no list of symbols, 0 for none.
+    fn refusal(&self) -> u32 {
+        refusals::first(self.rest.is_empty(), self.symbols.iter().all(|y| given(&self.tables, y)), true, 0, true, true)
+    }
+
     /// How the trip ends.
     pub fn ends(&self) -> String {
+        match self.refusal() {
+            0 => (),
+            no => return format!("refused {no}"),
+        }
         match self.sent() {
             Err(end) => end,
             Ok(sent) if self.agrees(&sent) == Ok(true) => "agreed".to_string(),

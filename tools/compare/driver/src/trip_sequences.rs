@@ -1,6 +1,6 @@
 //! Round trips: allocations that libopus made while it encoded speech and music, after rows of symbols by chance; rows and allocations by chance over
 //! storages of 0 to 1,275 bytes; rows that fill a small storage to its edge and past it; every way in which a symbol or an allocation is outside its
-//! domain, and its last step inside; the longest storage, and longer ones.
+//! domain, and its last step inside; the longest storage, and longer ones; numbers that are no list of symbols.
 use crate::alloc::Numbers;
 use crate::coder::{self, Call};
 use crate::coder_sequences::{any, small, value, Shape};
@@ -70,6 +70,7 @@ fn trip(r: &mut Random, storage: u32, row: Row) -> Trip {
         caps: alloc_sequences::any_caps(r, numbers.c, numbers.lm),
         tables: row.tables,
         symbols: row.symbols,
+        rest: vec![],
     }
 }
 
@@ -188,9 +189,34 @@ fn storages(r: &mut Random, list: &mut Vec<Trip>) {
     }
 }
 
+/// Numbers after the last symbol; kinds there are none of; tables that end with the last entry, one past it and far past it, and with no entry; each
+/// first, last and beside others. Where several are wrong at once, the length comes first; a symbol that its own call would refuse comes after.
+fn malformed(r: &mut Random, list: &mut Vec<Trip>) {
+    let table = |second, third| [1, 0, 3, second, third];
+    let wrong: [Symbol; 9] = [
+        [5, 0, 1, 0, 0], [6, 1, 3, 0, 0], [u32::MAX, 0, 0, 0, 0], table(0, 3), table(1, 2), table(2, 1), table(3, 0), table(u32::MAX, u32::MAX), table(2, u32::MAX - 1),
+    ];
+    let right: [Symbol; 4] = [table(0, 2), table(1, 1), table(2, 0), [2, 1, 7, u32::MAX, u32::MAX]];
+    for (y, first) in wrong.iter().chain(&right).flat_map(|y| [(y, true), (y, false)]) {
+        let mut row = Row { tables: vec![3, 0], symbols: vec![] };
+        row.grow(r, small);
+        row.symbols.retain(|y| y[0] != 1);
+        row.tables.truncate(2);
+        row.symbols.insert(if first { 0 } else { row.symbols.len() }, *y);
+        list.push(trip(r, 60, row));
+    }
+    for rest in 1..5 {
+        for y in [None, Some([0, 2, 3, 0, 0]), Some([9, 0, 0, 0, 0])] {
+            let row = Row { tables: vec![], symbols: y.into_iter().collect() };
+            let (storage, rest) = (r.one_of(&[0, 60, 1276]), (0..rest).map(|_| r.below(10)).collect());
+            list.push(Trip { rest, ..trip(r, storage, row) });
+        }
+    }
+}
+
 pub fn all(r: &mut Random) -> Vec<Sequence> {
     let mut list = vec![];
-    for family in [traffic, chance, full, bad_symbols, bad_allocations, storages] {
+    for family in [traffic, chance, full, bad_symbols, bad_allocations, storages, malformed] {
         family(r, &mut list);
     }
     list.iter().map(|t| vec![t.line()]).collect()
@@ -204,7 +230,7 @@ pub fn figures(sequences: &[Sequence]) -> Vec<String> {
         let words: Vec<&str> = end.split(' ').collect();
         let end = if words.len() == 4 { format!("refused symbol {}", words[3]) } else { end };
         if end == "agreed" {
-            t.symbols.iter().for_each(|y| symbols[y[0].min(4) as usize] += 1);
+            t.symbols.iter().for_each(|y| symbols[y[0] as usize] += 1);
         }
         *ends.entry(format!("{}{end}", if t.recorded { "recorded " } else { "" })).or_default() += 1;
     }

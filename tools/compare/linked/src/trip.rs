@@ -66,18 +66,21 @@ fn five(call: &Call, tables: &mut Vec<u8>) -> [u32; 5] {
     }
 }
 
-/// And back. A table has those of its entries that the tables have.
+/// And back.
 fn call_of<'a>(s: &[u32], tables: &'a [u8]) -> Call<'a> {
     match s[0] {
         0 => Call::PutBit(s[1], s[2]),
-        1 => {
-            let rest = &tables[(s[3] as usize).min(tables.len())..];
-            Call::PutTable(s[1], &rest[..(s[4] as usize).min(rest.len())], s[2])
-        }
+        1 => Call::PutTable(s[1], &tables[s[3] as usize..(s[3] + s[4]) as usize], s[2]),
         2 => Call::PutUniform(s[1], s[2]),
         3 => Call::PutRaw(s[1], s[2]),
-        _ => Call::PutLaplace((s[1] >> 1) as i32 ^ -((s[1] & 1) as i32), s[2], s[3]),
+        4 => Call::PutLaplace((s[1] >> 1) as i32 ^ -((s[1] & 1) as i32), s[2], s[3]),
+        _ => unreachable!("no such kind is written"),
     }
+}
+
+/// Is the kind one there is, and has a table no entry past the last?
+fn given(s: &[u32], tables: &[u8]) -> bool {
+    s[0] <= 4 && (s[0] != 1 || s[3] as u64 + s[4] as u64 <= tables.len() as u64)
 }
 
 /// What is told after a call.
@@ -165,7 +168,8 @@ impl Question for Trip {
         let lent = self.clone();
         let mut outcome = Guarded::new(&[KEPT; 4], KEPT, self.outcome);
         let no = exports::round_trip(&lent.bytes, &lent.symbols, &lent.tables, &lent.numbers, &lent.offsets, &lent.caps, outcome.lent());
-        let right = if self.outcome == 0 { 0 } else { 2 };
+        let lengths = self.outcome == 0 && self.symbols.len() % 5 == 0;
+        let right = refusals::first(lengths, self.symbols.chunks_exact(5).all(|s| given(s, &self.tables)), true, 0, true, true);
         let given = (right == 0).then(|| Both::asked(|| self.ended(CRATE), || self.ended(LIBOPUS)));
         let ends = given.as_ref().map_or([KEPT; 4], |both| *both.right());
         if no != right || !outcome.is(&ends) || lent != *self || !given.as_ref().map_or(true, Both::agree) {
@@ -221,7 +225,7 @@ fn plain(bytes: Vec<u8>, calls: &[Call], a: &Asked) -> Trip {
     Trip { bytes, symbols, tables, numbers, offsets: a.offsets.clone(), caps: a.caps.clone(), outcome: 0 }
 }
 
-/// Recorded allocations and every refusal of one, over storages 0..1,276.
+/// Recorded allocations and every refusal of one, over storages 0..1,276; and numbers that are no list of symbols.
 pub fn fixed(run: &mut Run) -> Result<(), String> {
     let row = [
         Call::PutBit(1, 3), Call::PutTable(2, &[7, 4, 2, 0], 3), Call::PutUniform(70_000, 100_000), Call::PutRaw(5, 3),
@@ -236,6 +240,20 @@ pub fn fixed(run: &mut Run) -> Result<(), String> {
     }
     for storage in 0..=1276 {
         asked(run, plain(vec![90; storage], &row, &list[storage % list.len()]))?;
+    }
+    // a rest of fewer than five numbers; a kind there is none of; a table up to the last entry, past it and far past it
+    let good = plain(vec![90; 60], &row, &list[0]);
+    for n in 0..good.symbols.len() {
+        asked(run, Trip { symbols: good.symbols[..n].to_vec(), ..good.clone() })?;
+    }
+    for place in 0..row.len() {
+        for kind in [5, 6, u32::MAX] {
+            asked(run, changed(&good, &[&|q: &mut Trip| q.symbols[5 * place] = kind]).swap_remove(0))?;
+        }
+        for (from, count) in [(0, 4), (4, 0), (3, 1), (0, 5), (4, 1), (5, 0), (u32::MAX, 1), (1, u32::MAX), (u32::MAX, u32::MAX)] {
+            let five = [1, 0, 3, from, count];
+            asked(run, changed(&good, &[&|q: &mut Trip| q.symbols[5 * place..5 * place + 5].copy_from_slice(&five)]).swap_remove(0))?;
+        }
     }
     Ok(())
 }

@@ -1,6 +1,6 @@
 -- `celt_round_trip`: the length, the call, and what is left of it. Assumes nothing.
 use borrow.Author.Tests.{eq-eqb, ne-eqb}
-use Rattle.round_trip_run.specs.Given.{symbolsOf}
+use Rattle.round_trip_run.specs.Given.{refusalGiven, symbolsOf}
 use Rattle.celt_answer.proofs.Exports.{wrong-lengths, right-lengths}
 use Rattle.celt.proofs.Bands.{numbers-back, wishes-back}
 use Rattle.celt.proofs.Ended.{trip-left}
@@ -10,11 +10,11 @@ use Rattle.celt.proofs.trips.celt_round_trip.Tie as tie
 round-trip-requires : tie.Need-round-trip-requires
 round-trip-requires c κs = tt
 
-leave-outcome-requires : tie.Need-leave-outcome-requires
-leave-outcome-requires c κs = c .before .before .if1 .taken
+leave-trip-requires : tie.Need-leave-trip-requires
+leave-trip-requires c κs = c .before .before .if1 .taken
 
 same-length : tie.Need-same-length
-same-length c = c .before .before .leave-outcome .kept .1 .0
+same-length c = c .before .before .leave-trip .kept .1 .0
 
 returns : tie.Need-returns
 returns c =
@@ -25,11 +25,11 @@ returns c =
     let a = p .args in
     let f = p .fits in
     right-lengths _ _ (eq-eqb _ _ (t .if1 .taken))
-    (trip-left (a .outcome .now) (a .offsets .now) (a .caps .now) (a .bytes .now) (symbolsOf (a .symbols .now) (a .tables .now)) (numbers-back (f .c) (f .lm) (f .start) (f .end) (f .trim) (f .total)) (wishes-back (f .intensity) (f .dual) (f .previous) (f .bandwidth)) (k .round-trip .ensures) (g .leave-outcome .ensures))
+    (trip-left (a .outcome .now) (a .offsets .now) (a .caps .now) (a .bytes .now) (symbolsOf (a .symbols .now) (a .tables .now)) (refusalGiven (a .symbols .now) (a .tables .now)) (numbers-back (f .c) (f .lm) (f .start) (f .end) (f .trim) (f .total)) (wishes-back (f .intensity) (f .dual) (f .previous) (f .bandwidth)) (k .round-trip .ensures) (g .leave-trip .ensures .0) (g .leave-trip .ensures .1))
 
 returns-2 : tie.Need-returns-2
 returns-2 c = wrong-lengths _ _ (ne-eqb _ _ (c .if1 .left))
 
 pub celt-round-trip-spec : {M : Type 1} → statement M
 celt-round-trip-spec =
-    tie.close (tie.spec round-trip-requires leave-outcome-requires same-length returns returns-2)
+    tie.close (tie.spec round-trip-requires leave-trip-requires same-length returns returns-2)

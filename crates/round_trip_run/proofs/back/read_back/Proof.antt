@@ -1,8 +1,9 @@
--- `round_trip_run::back::read_back`: the packet opens, by the theorem. Assumes nothing.
+-- `round_trip_run::back::read_back`, by whether the packet opens. Assumes nothing.
 use denote.Ref.{now}
 use mathlib.Core.Path.{sym, _∙_}
 use Rattle.rate.specs.Question.{lists}
-use Rattle.round_trip_run.proofs.Backing.{opens}
+use Rattle.round_trip_run.specs.Given.{symbolsOf}
+use Rattle.round_trip_run.proofs.Backing.{reader-at, reader-no}
 use borrow.Author.Needs.{needs}
 use Rattle.round_trip_run.proofs.back.read_back.Statement.{statement}
 use Rattle.round_trip_run.proofs.back.read_back.Tie as tie
@@ -17,9 +18,7 @@ enum-known-answer : tie.Need-enum-known-answer
 enum-known-answer c = search needs
 
 read-on-requires : tie.Need-read-on-requires
-read-on-requires c κs =
-    let a = c .before .before .before .before .before .before .before .before .before .before .before .before .before .before .args in
-    rw (c .before .before .before .before .before .before .before .copy .ensures) (record { sent = c .before .before .before .before .before .before .before .before .before .before .before .before .before .before .pre .1; each = λ i. c .before .before .before .before .before .before .before .before .before .before .before .before .before .shared-slice-known .given i .fits; new = sym (c .before .before .before .before .new .ensures) ∙ c .before .before .answer .given .1 })
+read-on-requires c κs = let p = c .before .before .before .before .before .before .before .before .before .before .before .before .before .before .pre in (p .1, p .2, p .3)
 
 enum-told : tie.Need-enum-told
 enum-told c = search needs
@@ -28,7 +27,10 @@ same-length : tie.Need-same-length
 same-length c = search needs
 
 returns : tie.Need-returns
-returns c = search needs
+returns c =
+    let a = c .before .before .before .before .before .before .before .before .before .before .before .before .before .before .before .before .before .args in
+    reader-at (a .q) (now (a .offsets)) (now (a .caps)) (symbolsOf (now (a .symbols)) (now (a .tables))) (a .w) (now (a .bytes)) (a .y) (lists (now (a .pulses)) (now (a .fine)) (now (a .priorities))) (now (a .s))
+    (c .before .before .before .before .before .answer .given .0 .0) _ (sym (c .before .before .before .before .before .before .before .new .ensures) ∙ c .before .before .before .before .before .answer .given .1) (c .before .before .before .before .before .before .before .before .before .before .copy .ensures) (c .before .before .read-on .ensures)
 
 same-length-2 : tie.Need-same-length-2
 same-length-2 c = search needs
@@ -36,7 +38,7 @@ same-length-2 c = search needs
 returns-2 : tie.Need-returns-2
 returns-2 c =
     let a = c .before .before .before .before .before .before .before .before .before .before .before .before .args in
-    opens (now (a .symbols)) (now (a .tables)) (a .q) (now (a .offsets)) (now (a .caps)) (now (a .bytes)) (a .w) (a .y) (lists (now (a .pulses)) (now (a .fine)) (now (a .priorities))) (now (a .s)) (c .before .before .before .before .before .before .before .before .before .before .before .before .pre .1) (λ i. c .before .before .before .before .before .before .before .before .before .before .before .shared-slice-known .given i .fits) _ (sym (c .before .before .new .ensures) ∙ c .enum-told .given .1)
+    reader-no (a .q) (now (a .offsets)) (now (a .caps)) (symbolsOf (now (a .symbols)) (now (a .tables))) (a .w) (now (a .bytes)) (a .y) (lists (now (a .pulses)) (now (a .fine)) (now (a .priorities))) (now (a .s)) (sym (c .before .before .new .ensures) ∙ c .enum-told .given .1)
 
 pub read-back-spec : {M : Type 1} → statement M
 read-back-spec =

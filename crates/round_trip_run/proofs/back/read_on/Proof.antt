@@ -1,7 +1,7 @@
--- `round_trip_run::back::read_on`: the symbols agree, by the theorem. Assumes nothing.
+-- `round_trip_run::back::read_on`, by whether the symbols agree. Assumes nothing.
 use denote.Ref.{now}
 use Rattle.rate.specs.Question.{lists}
-use Rattle.round_trip_run.proofs.Backing.{back-differs, back-same, begins-same}
+use Rattle.round_trip_run.proofs.Backing.{back-differs, back-same}
 use borrow.Author.Needs.{needs}
 use Rattle.round_trip_run.proofs.back.read_on.Statement.{statement}
 use Rattle.round_trip_run.proofs.back.read_on.Tie as tie
@@ -16,9 +16,7 @@ enum-known-answer : tie.Need-enum-known-answer
 enum-known-answer c = search needs
 
 same-shares-requires : tie.Need-same-shares-requires
-same-shares-requires c κs =
-    let a = c .before .before .before .before .before .before .before .before .before .before .before .before .before .args in
-    back-same (now (a .symbols)) (now (a .tables)) (a .q) (now (a .offsets)) (now (a .caps)) (now (a .buf)) (a .w) (a .y) (lists (now (a .pulses)) (now (a .fine)) (now (a .priorities))) (now (a .s)) (a .d) (c .before .before .before .before .before .before .before .before .before .before .before .before .before .pre) (c .before .before .before .before .before .before .pair-row .result) (c .before .before .before .before .before .before .pair-row .last .1 .0) (c .before .before .before .before .before .before .pair-row .ensures) (c .before .before .answer .given .0 .0) (c .before .before .answer .given .1)
+same-shares-requires c κs = c .before .before .before .before .before .before .before .before .before .before .before .before .before .pre
 
 enum-told : tie.Need-enum-told
 enum-told c = search needs
@@ -29,7 +27,8 @@ same-length c = search needs
 returns : tie.Need-returns
 returns c =
     let a = c .before .before .before .before .before .before .before .before .before .before .before .before .before .before .args in
-    rw (c .before .before .before .before .before .before .before .before .before .same-tells .ensures, begins-same (now (a .symbols)) (now (a .tables)) (a .q) (now (a .offsets)) (now (a .caps)) (now (a .buf)) (a .w) (a .y) (lists (now (a .pulses)) (now (a .fine)) (now (a .priorities))) (now (a .s)) (a .d) (c .before .before .before .before .before .before .before .before .before .before .before .before .before .before .pre), c .same-shares .ensures)
+    let k = c .before .before .before .before .before .before .before in
+    back-same (now (a .symbols)) (now (a .tables)) (a .q) (now (a .offsets)) (now (a .caps)) (a .y) (lists (now (a .pulses)) (now (a .fine)) (now (a .priorities))) (now (a .s)) (a .w) (now (a .buf)) (a .d) (k .pair-row .result) (k .pair-row .last .1 .0) (k .pair-row .ensures) (c .before .before .before .answer .given .0 .0) (c .before .before .before .answer .given .1) (c .before .before .before .before .before .before .before .before .before .same-tells .ensures) (c .same-shares .ensures)
 
 same-length-2 : tie.Need-same-length-2
 same-length-2 c = search needs
@@ -37,7 +36,8 @@ same-length-2 c = search needs
 returns-2 : tie.Need-returns-2
 returns-2 c =
     let a = c .before .before .before .before .before .before .before .before .before .before .before .args in
-    back-differs (now (a .symbols)) (now (a .tables)) (a .q) (now (a .offsets)) (now (a .caps)) (now (a .buf)) (a .w) (a .y) (lists (now (a .pulses)) (now (a .fine)) (now (a .priorities))) (now (a .s)) (a .d) (c .before .before .before .before .before .before .before .before .before .before .before .pre) (c .before .before .before .before .pair-row .result) (c .before .before .before .before .pair-row .last .1 .0) (c .before .before .before .before .pair-row .ensures) (c .enum-told .given .1)
+    let k = c .before .before .before .before in
+    back-differs (now (a .symbols)) (now (a .tables)) (a .q) (now (a .offsets)) (now (a .caps)) (a .y) (lists (now (a .pulses)) (now (a .fine)) (now (a .priorities))) (now (a .s)) (a .w) (now (a .buf)) (a .d) (k .pair-row .result) (k .pair-row .last .1 .0) (k .pair-row .ensures) (c .enum-told .given .1)
 
 pub read-on-spec : {M : Type 1} → statement M
 read-on-spec =

@@ -1,9 +1,8 @@
--- `round_trip_run::back::same_shares`: the allocation agrees, by the theorem. Assumes nothing.
+-- `round_trip_run::back::same_shares`: the reader's lists are as long as the writer's. Assumes nothing.
 use denote.Ref.{now}
-use mathlib.Core.Path.{ap, sym, _∙_}
-use lib.ListN.{length}
-use Rattle.rate.specs.Question.{Lists, lists}
-use Rattle.round_trip_run.proofs.Backing.{got-is, shared-got, shared-not, shared-same}
+use mathlib.Core.Path.{sym, _∙_}
+use Rattle.rate.specs.Question.{lists}
+use Rattle.round_trip_run.proofs.Backing.{shares-got, shares-no}
 use borrow.Author.Needs.{needs}
 use Rattle.round_trip_run.proofs.back.same_shares.Statement.{statement}
 use Rattle.round_trip_run.proofs.back.same_shares.Tie as tie
@@ -34,9 +33,9 @@ slice-aggregate-same-answers-3 c = search needs
 
 same-answers-requires : tie.Need-same-answers-requires
 same-answers-requires c κs =
-    let a = c .before .before .before .before .before .before .before .before .before .before .before .before .before .before .args in
-    let g = shared-got (a .q) (now (a .offsets)) (now (a .caps)) (a .y) (lists (now (a .pulses)) (now (a .fine)) (now (a .priorities))) (now (a .s)) (a .e) (c .before .before .before .before .before .before .before .before .before .before .before .before .before .before .pre) (c .before .before .before .before .before .before .before .before .before .read-shares .result) (lists (c .before .before .before .before .before .before .before .before .before .read-shares .last .1 .1 .1 .1 .1 .0) (c .before .before .before .before .before .before .before .before .before .read-shares .last .1 .1 .1 .1 .1 .1 .0) (c .before .before .before .before .before .before .before .before .before .read-shares .last .1 .1 .1 .1 .1 .1 .1 .0)) (c .before .before .before .before .before .before .before .before .before .read-shares .ensures) .1 in
-    (ap (λ (x : Lists). length (x .pulses)) g, ap (λ (x : Lists). length (x .fine)) g, ap (λ (x : Lists). length (x .priorities)) g)
+    let p = c .before .before .before .before .before .before .before .before .before .before .before .before .before .before .pre in
+    let k = c .before .before .before .before .before .before .before .before .before .read-shares .kept in
+    (k .1 .1 .1 .1 .1 .0 ∙ sym (p .0), k .1 .1 .1 .1 .1 .1 .0 ∙ sym (p .1), k .1 .1 .1 .1 .1 .1 .1 .0 ∙ sym (p .2))
 
 enum-told : tie.Need-enum-told
 enum-told c = search needs
@@ -44,13 +43,14 @@ enum-told c = search needs
 returns : tie.Need-returns
 returns c =
     let a = c .before .before .before .before .before .before .before .before .before .before .before .before .before .before .before .args in
-    let g = shared-got (a .q) (now (a .offsets)) (now (a .caps)) (a .y) (lists (now (a .pulses)) (now (a .fine)) (now (a .priorities))) (now (a .s)) (a .e) (c .before .before .before .before .before .before .before .before .before .before .before .before .before .before .before .pre) (c .before .before .before .before .before .before .before .before .before .before .read-shares .result) (lists (c .before .before .before .before .before .before .before .before .before .before .read-shares .last .1 .1 .1 .1 .1 .0) (c .before .before .before .before .before .before .before .before .before .before .read-shares .last .1 .1 .1 .1 .1 .1 .0) (c .before .before .before .before .before .before .before .before .before .before .read-shares .last .1 .1 .1 .1 .1 .1 .1 .0)) (c .before .before .before .before .before .before .before .before .before .before .read-shares .ensures) in
-    shared-same (a .q) (now (a .offsets)) (now (a .caps)) (a .y) (lists (now (a .pulses)) (now (a .fine)) (now (a .priorities))) (now (a .s)) (a .e) (c .before .before .before .before .before .before .before .before .before .before .before .before .before .before .before .pre) (c .before .before .before .before .before .answer .given .0 .0) (lists (c .before .before .before .before .before .before .before .before .before .before .read-shares .last .1 .1 .1 .1 .1 .0) (c .before .before .before .before .before .before .before .before .before .before .read-shares .last .1 .1 .1 .1 .1 .1 .0) (c .before .before .before .before .before .before .before .before .before .before .read-shares .last .1 .1 .1 .1 .1 .1 .1 .0)) (got-is (sym (c .before .before .before .before .before .answer .given .1) ∙ g .0)) (g .1) (c .same-answers .ensures)
+    let k = c .before .before .before .before .before .before .before .before .before .before .read-shares in
+    shares-got (a .q) (now (a .offsets)) (now (a .caps)) (a .y) (lists (now (a .pulses)) (now (a .fine)) (now (a .priorities))) (now (a .s)) (a .e) (lists (k .last .1 .1 .1 .1 .1 .0) (k .last .1 .1 .1 .1 .1 .1 .0) (k .last .1 .1 .1 .1 .1 .1 .1 .0)) (k .ensures) (c .before .before .before .before .before .answer .given .0 .0) (c .before .before .before .before .before .answer .given .1) (c .same-answers .ensures)
 
 returns-2 : tie.Need-returns-2
 returns-2 c =
     let a = c .before .before .before .before .before .before .before .before .before .before .args in
-    shared-not (a .q) (now (a .offsets)) (now (a .caps)) (a .y) (lists (now (a .pulses)) (now (a .fine)) (now (a .priorities))) (now (a .s)) (a .e) (c .before .before .before .before .before .before .before .before .before .before .pre) (c .before .before .before .before .before .read-shares .result) (lists (c .before .before .before .before .before .read-shares .last .1 .1 .1 .1 .1 .0) (c .before .before .before .before .before .read-shares .last .1 .1 .1 .1 .1 .1 .0) (c .before .before .before .before .before .read-shares .last .1 .1 .1 .1 .1 .1 .1 .0)) (c .before .before .before .before .before .read-shares .ensures) (c .enum-told .given .1)
+    let k = c .before .before .before .before .before .read-shares in
+    shares-no (a .q) (now (a .offsets)) (now (a .caps)) (a .y) (lists (now (a .pulses)) (now (a .fine)) (now (a .priorities))) (now (a .s)) (a .e) (lists (k .last .1 .1 .1 .1 .1 .0) (k .last .1 .1 .1 .1 .1 .1 .0) (k .last .1 .1 .1 .1 .1 .1 .1 .0)) (k .ensures) (c .enum-told .given .1)
 
 pub same-shares-spec : {M : Type 1} → statement M
 same-shares-spec =

@@ -2,8 +2,10 @@
 use denote.Ref.{now}
 use Rattle.entenc.specs.Write.{wr}
 use Rattle.rate.specs.Question.{lists}
-use Rattle.round_trip_run.specs.Shares.{wishesOf}
-use Rattle.round_trip_run.proofs.Outcomes.{allot-got, allot-is, allot-refused}
+use Rattle.round_trip.specs.Rows.{writeAll}
+use Rattle.round_trip_run.specs.Given.{symbolsOf, wishesOf}
+use Rattle.round_trip_run.specs.ReadBack.{agrees}
+use Rattle.round_trip_run.proofs.Outcomes.{allot-got, allot-refused}
 use borrow.Author.Needs.{needs}
 use Rattle.round_trip_run.proofs.sends.allot.Statement.{statement}
 use Rattle.round_trip_run.proofs.sends.allot.Tie as tie
@@ -34,8 +36,8 @@ slice-aggregate-shut-3 c = search needs
 
 shut-requires : tie.Need-shut-requires
 shut-requires c κs =
-    let a = c .before .before .before .before .before .before .before .before .before .before .before .before .before .before .before .before .before .before .before .before .before .args in
-    record { h = wishesOf (a .h); v = wr (a .v) (now (a .buf)); row = c .before .before .before .before .before .before .before .before .before .before .before .before .before .before .before .before .before .before .before .before .before .pre; allots = allot-is (a .q) (wishesOf (a .h)) (now (a .offsets)) (now (a .caps)) (wr (a .v) (now (a .buf))) (lists (c .before .before .before .before .before .before .before .before .before .before .before .before .write-shares .last .1 .1 .1 .1 .1 .1 .0) (c .before .before .before .before .before .before .before .before .before .before .before .before .write-shares .last .1 .1 .1 .1 .1 .1 .1 .0) (c .before .before .before .before .before .before .before .before .before .before .before .before .write-shares .last .1 .1 .1 .1 .1 .1 .1 .1 .0)) (c .before .before .before .before .before .before .before .before .before .before .before .before .write-shares .ensures) (c .before .before .before .before .before .answer .given .0 .0) (c .before .before .before .before .before .answer .given .1) }
+    let k = c .before .before .before .before .before .before .before .before .before .before .before .before .write-shares .kept in
+    (c .before .before .before .before .before .before .before .before .before .before .before .before .before .before .before .before .before .before .before .before .before .pre, k .1 .1 .1 .1 .1 .1 .0, k .1 .1 .1 .1 .1 .1 .1 .0, k .1 .1 .1 .1 .1 .1 .1 .1 .0)
 
 enum-known-answer-2 : tie.Need-enum-known-answer-2
 enum-known-answer-2 c = search needs
@@ -46,7 +48,7 @@ same-length c = search needs
 returns : tie.Need-returns
 returns c =
     let a = c .before .before .before .before .before .before .before .before .before .before .before .before .before .before .before .before .before .before .before .before .before .before .before .before .args in
-    allot-got (a .q) (wishesOf (a .h)) (now (a .offsets)) (now (a .caps)) (wr (a .v) (now (a .buf))) (lists (c .before .before .before .before .before .before .before .before .before .before .before .before .before .before .before .write-shares .last .1 .1 .1 .1 .1 .1 .0) (c .before .before .before .before .before .before .before .before .before .before .before .before .before .before .before .write-shares .last .1 .1 .1 .1 .1 .1 .1 .0) (c .before .before .before .before .before .before .before .before .before .before .before .before .before .before .before .write-shares .last .1 .1 .1 .1 .1 .1 .1 .1 .0)) (c .before .before .before .before .before .before .before .before .before .before .before .before .before .before .before .write-shares .ensures) (c .before .before .before .before .before .before .before .before .answer .given .0 .0) (c .before .before .before .before .before .before .before .before .answer .given .1) (c .before .before .shut .ensures)
+    allot-got (a .q) (wishesOf (a .h)) (now (a .offsets)) (now (a .caps)) (wr (a .v) (now (a .buf))) (lists (c .before .before .before .before .before .before .before .before .before .before .before .before .before .before .before .write-shares .last .1 .1 .1 .1 .1 .1 .0) (c .before .before .before .before .before .before .before .before .before .before .before .before .before .before .before .write-shares .last .1 .1 .1 .1 .1 .1 .1 .0) (c .before .before .before .before .before .before .before .before .before .before .before .before .before .before .before .write-shares .last .1 .1 .1 .1 .1 .1 .1 .1 .0)) (c .before .before .before .before .before .before .before .before .before .before .before .before .before .before .before .write-shares .ensures) (agrees (a .q) (now (a .offsets)) (now (a .caps)) (symbolsOf (now (a .symbols)) (now (a .tables))) (a .w) (writeAll (symbolsOf (now (a .symbols)) (now (a .tables))) (wr (a .w) (now (a .bytes))))) (c .before .before .before .before .before .before .before .before .answer .given .0 .0) (c .before .before .before .before .before .before .before .before .answer .given .1) (c .before .before .shut .ensures)
 
 same-length-2 : tie.Need-same-length-2
 same-length-2 c = search needs
@@ -54,7 +56,7 @@ same-length-2 c = search needs
 returns-2 : tie.Need-returns-2
 returns-2 c =
     let a = c .before .before .before .before .before .before .before .before .before .before .before .before .before .before .before .before .before .args in
-    allot-refused (a .q) (wishesOf (a .h)) (now (a .offsets)) (now (a .caps)) (wr (a .v) (now (a .buf))) (lists (c .before .before .before .before .before .before .before .before .write-shares .last .1 .1 .1 .1 .1 .1 .0) (c .before .before .before .before .before .before .before .before .write-shares .last .1 .1 .1 .1 .1 .1 .1 .0) (c .before .before .before .before .before .before .before .before .write-shares .last .1 .1 .1 .1 .1 .1 .1 .1 .0)) (c .before .before .before .before .before .before .before .before .write-shares .ensures) (c .before .answer2 .given .1)
+    allot-refused (a .q) (wishesOf (a .h)) (now (a .offsets)) (now (a .caps)) (wr (a .v) (now (a .buf))) (lists (c .before .before .before .before .before .before .before .before .write-shares .last .1 .1 .1 .1 .1 .1 .0) (c .before .before .before .before .before .before .before .before .write-shares .last .1 .1 .1 .1 .1 .1 .1 .0) (c .before .before .before .before .before .before .before .before .write-shares .last .1 .1 .1 .1 .1 .1 .1 .1 .0)) (c .before .before .before .before .before .before .before .before .write-shares .ensures) (agrees (a .q) (now (a .offsets)) (now (a .caps)) (symbolsOf (now (a .symbols)) (now (a .tables))) (a .w) (writeAll (symbolsOf (now (a .symbols)) (now (a .tables))) (wr (a .w) (now (a .bytes))))) (c .before .answer2 .given .1)
 
 pub allot-spec : {M : Type 1} → statement M
 allot-spec =

@@ -16,7 +16,7 @@ slice-aggregate-send : tie.Need-slice-aggregate-send
 slice-aggregate-send c = let a = c .before .before .before .before .args in room-part (length (now (a .bytes))) _ refl (new-writer (length (now (a .bytes))) (a .w) (c .before .before .before .before .pre) .0)
 
 send-requires : tie.Need-send-requires
-send-requires c κs = let a = c .before .before .before .before .args in (c .before .before .before .before .pre, sym (room-part (length (now (a .bytes))) _ refl (new-writer (length (now (a .bytes))) (a .w) (c .before .before .before .before .pre) .0)))
+send-requires c κs = let a = c .before .before .before .before .args in (new-writer (length (now (a .bytes))) (a .w) (c .before .before .before .before .pre) .0, sym (room-part (length (now (a .bytes))) _ refl (new-writer (length (now (a .bytes))) (a .w) (c .before .before .before .before .pre) .0)))
 
 returns : tie.Need-returns
 returns c = search needs

@@ -1,4 +1,5 @@
--- `round_trip_run::sends::ended`: what is not closed is not read back, and what is read back agrees. Assumes nothing.
+-- `round_trip_run::sends::ended`: what is not closed is not read back. Assumes nothing.
+use mathlib.Core.Path.{sym, _∙_}
 use borrow.Author.Needs.{needs}
 use Rattle.round_trip_run.proofs.sends.ended.Statement.{statement}
 use Rattle.round_trip_run.proofs.sends.ended.Tie as tie
@@ -10,10 +11,10 @@ compare-requires : tie.Need-compare-requires
 compare-requires c κs = search needs
 
 returns-2 : tie.Need-returns-2
-returns-2 c = rw (c .before .before .if1 .left)
+returns-2 c = rw (c .before .before .if1 .left, ← c .before .compare .ensures, c .if2 .taken)
 
 returns-3 : tie.Need-returns-3
-returns-3 c = search needs
+returns-3 c = rw (c .before .before .if1 .left, ← c .before .compare .ensures, c .if2 .left)
 
 pub ended-spec : {M : Type 1} → statement M
 ended-spec = tie.close (tie.spec returns compare-requires returns-2 returns-3)

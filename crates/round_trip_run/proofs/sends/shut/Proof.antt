@@ -1,7 +1,11 @@
 -- `round_trip_run::sends::shut`. Assumes nothing.
 use denote.Ref.{now}
 use Rattle.entenc.specs.Write.{wr}
-use Rattle.round_trip_run.proofs.Outcomes.{close-is, close-said}
+use Rattle.rate.specs.Question.{lists}
+use Rattle.round_trip.specs.Rows.{writeAll}
+use Rattle.round_trip_run.specs.Given.{symbolsOf}
+use Rattle.round_trip_run.specs.ReadBack.{agrees}
+use Rattle.round_trip_run.proofs.Outcomes.{close-next, close-no}
 use borrow.Author.Needs.{needs}
 use Rattle.round_trip_run.proofs.sends.shut.Statement.{statement}
 use Rattle.round_trip_run.proofs.sends.shut.Tie as tie
@@ -13,9 +17,7 @@ enum-known-answer : tie.Need-enum-known-answer
 enum-known-answer c = search needs
 
 ended-requires : tie.Need-ended-requires
-ended-requires c κs =
-    let a = c .before .before .before .before .before .before .before .before .before .before .before .before .before .args in
-    record { filled = now (a .buf); shares = c .before .before .before .before .before .before .before .before .before .before .before .before .before .pre; closes = close-is (wr (a .y .next) (now (a .buf))) (c .before .before .before .before .before .before .close .ensures) (c .before .before .answer .given .0 .0) (c .before .before .answer .given .1) }
+ended-requires c κs = c .before .before .before .before .before .before .before .before .before .before .before .before .before .pre
 
 enum-known-answer-2 : tie.Need-enum-known-answer-2
 enum-known-answer-2 c = search needs
@@ -26,7 +28,9 @@ same-length c = search needs
 returns : tie.Need-returns
 returns c =
     let a = c .before .before .before .before .before .before .before .before .before .before .before .before .before .before .args in
-    rw (close-said (wr (a .y .next) (now (a .buf))) (c .before .before .before .before .before .before .before .close .ensures) (c .before .before .before .answer .given .1)) (c .ended .ensures)
+    close-next (wr (a .y .next) (now (a .buf))) (c .before .before .before .before .before .before .before .close .ensures)
+    (λ s. agrees (a .q) (now (a .offsets)) (now (a .caps)) (symbolsOf (now (a .symbols)) (now (a .tables))) (a .w) (writeAll (symbolsOf (now (a .symbols)) (now (a .tables))) (wr (a .w) (now (a .bytes)))) (a .y) (lists (now (a .pulses)) (now (a .fine)) (now (a .priorities))) s)
+    (c .before .before .before .answer .given .0 .0) (c .before .before .before .answer .given .1) (c .ended .ensures)
 
 same-length-2 : tie.Need-same-length-2
 same-length-2 c = search needs
@@ -34,7 +38,9 @@ same-length-2 c = search needs
 returns-2 : tie.Need-returns-2
 returns-2 c =
     let a = c .before .before .before .before .before .before .before .before .before .before .before .before .args in
-    rw (close-said (wr (a .y .next) (now (a .buf))) (c .before .before .before .before .before .close .ensures) (c .before .answer2 .given .1))
+    close-no (wr (a .y .next) (now (a .buf))) (c .before .before .before .before .before .close .ensures)
+    (λ s. agrees (a .q) (now (a .offsets)) (now (a .caps)) (symbolsOf (now (a .symbols)) (now (a .tables))) (a .w) (writeAll (symbolsOf (now (a .symbols)) (now (a .tables))) (wr (a .w) (now (a .bytes)))) (a .y) (lists (now (a .pulses)) (now (a .fine)) (now (a .priorities))) s)
+    (c .before .answer2 .given .1)
 
 pub shut-spec : {M : Type 1} → statement M
 shut-spec =

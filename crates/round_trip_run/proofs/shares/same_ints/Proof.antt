@@ -10,7 +10,7 @@ use mir.Val.{SFits}
 use mir.Facts.{toZ-ofZ}
 use borrow.Author.Needs.{needs}
 use borrow.Author.Tests.{not-false, not-true}
-use Rattle.round_trip_run.specs.Shares.{sameInts}
+use Rattle.round_trip_run.specs.Same.{sameInts}
 use Rattle.round_trip_run.proofs.Sharing.{ints-end, ints-no, ints-on}
 use Rattle.round_trip_run.proofs.shares.same_ints.Statement.{statement}
 use Rattle.round_trip_run.proofs.shares.same_ints.Tie as tie

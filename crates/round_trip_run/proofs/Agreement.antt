@@ -1,0 +1,154 @@
+-- By the theorem of round_trip the reader agrees with all that was written. Assumes nothing.
+use Prim.Native.Nat.{ℕ}
+use mathlib.Core.Path.{_≡_, refl, ap, sym, _∙_}
+use mathlib.Core.Bool.{Bool, true, false, cond}
+use mathlib.Core.List.{List}
+use native.Mathlib.Omega.{arith}
+use lib.IntN.{ℤ}
+use lib.ListN.{length}
+use Rattle.laws.specs.Lists.{Bytes}
+use Rattle.entenc.specs.declared.Writer.{Writer}
+use Rattle.entenc.specs.declared.Answer.{Answer}
+use Rattle.entenc.specs.declared.Answer.the-variants as written
+use Rattle.entenc.specs.Answer.{after, closing, startOf}
+use Rattle.entenc.specs.Write.{Wr, wr}
+use Rattle.rate.specs.declared.Numbers.{Numbers}
+use Rattle.rate.specs.declared.WrittenAllocation.{WrittenAllocation}
+use Rattle.rate.specs.declared.AllocWrote.{AllocWrote}
+use Rattle.rate.specs.declared.AllocWrote.the-variants as allocWritten
+use Rattle.rate.specs.Question.{Lists, Wishes}
+use Rattle.rate.specs.Answer.{afterWritten, writing}
+use Rattle.round_trip.specs.Calls.{Symbol, Tells, countOf, tellsR, tellsW}
+use Rattle.round_trip.specs.Rows.{Wrote, writeAll}
+use Rattle.round_trip.specs.Rows.Wrote.{wrote, noWrite}
+use Rattle.round_trip.specs.Demand.{Agreed, Sent}
+use Rattle.round_trip.proofs.Demand3.{demand3}
+use Rattle.round_trip_run.specs.declared.Call.the-variants as call
+use Rattle.round_trip_run.specs.declared.Outcome.{Outcome}
+use Rattle.round_trip_run.specs.declared.Outcome.the-variants as outcome
+use Rattle.round_trip_run.specs.Outcome.{NeverDisagreed, ReaderAgrees, allotOutcome, closeOutcome, newOutcome, rowOutcome}
+use Rattle.round_trip_run.specs.ReadBack.{agrees, blank}
+use Rattle.round_trip_run.specs.Same.{sameTells, sameValue}
+use Rattle.round_trip_run.proofs.Joining.{tells-equal}
+use Rattle.round_trip_run.proofs.Sharing.{alike-self, ints-same, numbers-same}
+use borrow.Author.Tests.{eq-eqb}
+
+value-same : (y : Symbol) → sameValue y y ≡ true
+value-same y = eq-eqb (countOf (y .kind) (y .value)) (countOf (y .kind) (y .value)) refl
+
+tells-same : (t : Tells) → sameTells t t ≡ true
+tells-same t = tells-equal t t refl
+
+-- ---- what was sent is read as the definition compares it
+
+module _ (q : Numbers) (offsets caps : List ℤ) (h : Wishes) (bytes : List ℕ) (ys : List Symbol) (b : Bytes bytes) where
+  module _ (k : Sent bytes ys q offsets caps h blank) where
+    the-agreed : Agreed bytes ys q offsets caps h blank k blank
+    the-agreed = demand3 bytes ys q offsets caps h blank k blank b (record { pulses = refl; fine = refl; priorities = refl })
+
+    sent-agrees : agrees q offsets caps ys (k .first) (wrote (k .row) (k .zs) (k .ts)) (k .shares) (k .lists) (k .packet) ≡ true
+    sent-agrees =
+        let g = the-agreed in
+        let n : g .lists ≡ k .lists = g .lists-read ∙ sym (g .lists-written) in
+        rw (
+          g .new,
+          g .reads,
+          tells-equal (tellsW (k .first)) (tellsR (g .first)) (g .begins),
+          alike-self sameValue value-same (k .zs),
+          alike-self sameTells tells-same (k .ts),
+          g .allots,
+          n,
+          numbers-same (k .shares) (g .shares) (g .coded) (g .balance) (g .intensity) (g .dual),
+          ints-same (k .lists .pulses),
+          ints-same (k .lists .fine),
+          ints-same (k .lists .priorities),
+          tells-equal (tellsW (k .shares .next)) (tellsR (g .shares .next)) (g .tells),
+        )
+
+  -- ---- each step of the writer's side
+
+  -- after a close by whether it set the error mark
+  by-mark : (t a : Bool) → (t ≡ false → a ≡ true)
+      → cond t outcome.NotClosed (cond a outcome.Agreed outcome.Disagreed) ≡ cond t outcome.NotClosed outcome.Agreed
+  by-mark true a f = refl
+  by-mark false a f = rw (f refl)
+
+  module _ (w : Writer) (new : startOf (length bytes) ≡ written.Next w) where
+    module _ (v : Wr) (zs : List Symbol) (ts : List Tells) (writes : writeAll ys (wr w bytes) ≡ wrote v zs ts) where
+      close-agrees : (y : WrittenAllocation) (m : Lists) (filled : List ℕ) → writing q h offsets caps v blank ≡ afterWritten (allocWritten.Got y) m filled
+          → (r : Answer) (s : List ℕ) → closing (wr (y .next) filled) ≡ after r s
+          → closeOutcome (agrees q offsets caps ys w (wrote v zs ts) y m) r s ≡ closeOutcome (λ s. true) r s
+      close-agrees y m filled allots (written.Refused n) s e = refl
+      close-agrees y m filled allots (written.Next u) s e =
+          by-mark (u .sink .error) (agrees q offsets caps ys w (wrote v zs ts) y m s)
+          (λ f.
+          sent-agrees
+          (record {
+            first = w;
+            new = new;
+            row = v;
+            zs = zs;
+            ts = ts;
+            writes = writes;
+            shares = y;
+            lists = m;
+            filled = filled;
+            allots = allots;
+            last = u;
+            packet = s;
+            closes = e;
+            fits = f;
+          }))
+
+      allot-agrees : (r : AllocWrote) (m : Lists) (filled : List ℕ) → writing q h offsets caps v blank ≡ afterWritten r m filled
+          → allotOutcome (agrees q offsets caps ys w (wrote v zs ts)) r m filled ≡ allotOutcome (λ y m s. true) r m filled
+      allot-agrees (allocWritten.Refused n) m filled e = refl
+      allot-agrees (allocWritten.Got y) m filled e = close-agrees y m filled e (closing (wr (y .next) filled) .said) (closing (wr (y .next) filled) .bytes) refl
+
+    row-agrees : (a : Wrote) → writeAll ys (wr w bytes) ≡ a
+        → rowOutcome q offsets caps h (agrees q offsets caps ys) w a ≡ rowOutcome q offsets caps h (λ w a y m s. true) w a
+    row-agrees (wrote v zs ts) e =
+        let x = writing q h offsets caps v blank in
+        allot-agrees v zs ts e (x .said) (x .lent) (x .bytes) refl
+    row-agrees (noWrite i n) e = refl
+
+  new-agrees : (r : Answer) → startOf (length bytes) ≡ r
+      → newOutcome q offsets caps h (agrees q offsets caps ys) bytes ys r ≡ newOutcome q offsets caps h (λ w a y m s. true) bytes ys r
+  new-agrees (written.Next w) e = row-agrees w e (writeAll ys (wr w bytes)) refl
+  new-agrees (written.Refused n) e = refl
+
+pub reader-agrees : ReaderAgrees
+reader-agrees q offsets caps h bytes ys b = new-agrees q offsets caps h bytes ys b (startOf (length bytes)) refl
+
+-- ---- the writer's side alone does not say Disagreed
+
+-- a number for each outcome
+abbrev numberOf : Outcome → ℕ
+numberOf outcome.Agreed = 0
+numberOf (outcome.Refused by n) = 1
+numberOf outcome.NotClosed = 2
+numberOf outcome.Disagreed = 3
+
+close-not : (r : Answer) (s : List ℕ) → closeOutcome (λ s. true) r s ≡ outcome.Disagreed → ⊥
+close-not (written.Refused n) s e = let z : _≡_ {A = ℕ} 1 3 = ap numberOf e in omega arith
+close-not (written.Next u) s e = go (u .sink .error) e
+  where
+    go : (t : Bool) → cond t outcome.NotClosed outcome.Agreed ≡ outcome.Disagreed → ⊥
+    go true e = let z : _≡_ {A = ℕ} 2 3 = ap numberOf e in omega arith
+    go false e = let z : _≡_ {A = ℕ} 0 3 = ap numberOf e in omega arith
+
+allot-not : (r : AllocWrote) (m : Lists) (b : List ℕ) → allotOutcome (λ y m s. true) r m b ≡ outcome.Disagreed → ⊥
+allot-not (allocWritten.Got y) m b e = close-not (closing (wr (y .next) b) .said) (closing (wr (y .next) b) .bytes) e
+allot-not (allocWritten.Refused n) m b e = let z : _≡_ {A = ℕ} 1 3 = ap numberOf e in omega arith
+
+module _ (q : Numbers) (offsets caps : List ℤ) (h : Wishes) where
+  row-not : (w : Writer) (a : Wrote) → rowOutcome q offsets caps h (λ w a y m s. true) w a ≡ outcome.Disagreed → ⊥
+  row-not w (wrote v zs ts) e = let x = writing q h offsets caps v blank in allot-not (x .said) (x .lent) (x .bytes) e
+  row-not w (noWrite i n) e = let z : _≡_ {A = ℕ} 1 3 = ap numberOf e in omega arith
+
+  new-not : (bytes : List ℕ) (ys : List Symbol) (r : Answer) → newOutcome q offsets caps h (λ w a y m s. true) bytes ys r ≡ outcome.Disagreed → ⊥
+  new-not bytes ys (written.Next w) e = row-not w (writeAll ys (wr w bytes)) e
+  new-not bytes ys (written.Refused n) e = let z : _≡_ {A = ℕ} 1 3 = ap numberOf e in omega arith
+
+pub never-disagreed : NeverDisagreed
+never-disagreed q offsets caps h bytes ys b e = new-not q offsets caps h bytes ys (startOf (length bytes)) (sym (reader-agrees q offsets caps h bytes ys b) ∙ e)

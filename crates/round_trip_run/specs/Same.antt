@@ -1,0 +1,52 @@
+-- What is compared after a trip: what is told, values, and allocations.
+use mathlib.Core.Bool.{Bool, true, false, _&&_}
+use mathlib.Core.List.{List, [], _∷_}
+use lib.Dec.{eqb}
+use lib.IntN.{ℤ}
+use Rattle.laws.specs.Signs.{inRange}
+use Rattle.entcode.specs.declared.Told.{Told}
+use Rattle.entcode.specs.declared.Told.the-variants.{Used, Refused}
+use Rattle.rate.specs.declared.ReadAllocation.{ReadAllocation}
+use Rattle.rate.specs.declared.WrittenAllocation.{WrittenAllocation}
+use Rattle.round_trip.specs.Calls.{Symbol, Tells, countOf}
+
+-- as many entries in both lists, each like the other's by `same`
+unfoldable pub alike : {A : Type 0} → (A → A → Bool) → List A → List A → Bool
+alike same [] [] = true
+alike same [] (y ∷ m) = false
+alike same (x ∷ l) [] = false
+alike same (x ∷ l) (y ∷ m) = same x y && alike same l m
+
+-- ---- what is told
+
+-- two answers of tell or of tell_frac
+abbrev pub sameTold : Told → Told → Bool
+sameTold (Used m) (Used n) = eqb m n
+sameTold (Used m) (Refused n) = false
+sameTold (Refused m) (Used n) = false
+sameTold (Refused m) (Refused n) = eqb m n
+
+-- of both
+abbrev pub sameTells : Tells → Tells → Bool
+sameTells a b = sameTold (a .bits) (b .bits) && sameTold (a .eighths) (b .eighths)
+
+-- ---- values
+
+-- of two symbols of one kind, by their counts
+abbrev pub sameValue : Symbol → Symbol → Bool
+sameValue y z = eqb (countOf (y .kind) (y .value)) (countOf (z .kind) (z .value))
+
+-- ---- allocations
+
+-- the same whole number
+abbrev pub sameInt : ℤ → ℤ → Bool
+sameInt x y = inRange y y x
+
+-- coded bands, balance, intensity and dual stereo
+abbrev pub sameNumbers : WrittenAllocation → ReadAllocation → Bool
+sameNumbers y x =
+    sameInt (x .coded) (y .coded) && sameInt (x .balance) (y .balance) && sameInt (x .intensity) (y .intensity) && sameInt (x .dual) (y .dual)
+
+-- the same entries
+abbrev pub sameInts : List ℤ → List ℤ → Bool
+sameInts x y = alike sameInt x y
