@@ -2,23 +2,16 @@
 use Prim.Native.Nat.{ℕ}
 use mathlib.Core.List.{List}
 use lib.IntN.{ℤ}
+use Rattle.entcode.specs.Said.{answer, shown}
 use Rattle.rate.specs.Question.{Wishes}
 use Rattle.rate.specs.declared.Numbers.{Numbers}
-use Rattle.round_trip_run.specs.declared.Trip.{Trip}
-use Rattle.round_trip_run.specs.declared.Trip.the-variants as trip
 use Rattle.round_trip_run.specs.Given.{refusalGiven, symbolsOf}
-use Rattle.round_trip_run.specs.Outcome.{outcomeOf, tripOf}
-use Rattle.celt_answer.specs.Left.{Left, Said, exported}
-use Rattle.celt_answer.specs.Left.Said.{done, refused}
+use Rattle.round_trip_run.specs.Outcome.{outcomeOf}
+use Rattle.celt_answer.specs.Left.{Left, exported}
 use Rattle.celt_state.specs.State.{isLong}
 use Rattle.celt_trip.specs.Trip.{numbersOf}
-
--- what a trip says
-abbrev pub tripSaid : Trip → Said (List ℕ)
-tripSaid (trip.Ended o) = done (numbersOf o)
-tripSaid (trip.Refused n) = refused n
 
 -- a trip over the bytes b; v is where its outcome goes. What a call of the trip refuses is in the outcome
 abbrev pub trips : Numbers → Wishes → List ℤ → List ℤ → List ℕ → List ℕ → List ℕ → List ℕ → Left (List ℕ)
 trips q h offsets caps b symbols tables v =
-    exported (isLong 4 v) (tripSaid (tripOf (refusalGiven symbols tables) (outcomeOf q offsets caps h b (symbolsOf symbols tables)))) v
+    exported (isLong 4 v) (shown numbersOf (answer (refusalGiven symbols tables) (outcomeOf q offsets caps h b (symbolsOf symbols tables)))) v

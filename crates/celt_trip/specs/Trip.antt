@@ -2,12 +2,12 @@
 -- (0 new, 1 a symbol, 2 the allocation, 3 close), the symbol's place and the refusal's number, each 0 where it is none.
 use Prim.Native.Nat.{ℕ}
 use mathlib.Core.List.{List, [], _∷_}
+use Rattle.entcode.specs.Said.{Said}
+use Rattle.entcode.specs.Said.Said.{done, refused}
 use Rattle.round_trip_run.specs.declared.Call.{Call}
 use Rattle.round_trip_run.specs.declared.Call.the-variants as call
 use Rattle.round_trip_run.specs.declared.Outcome.{Outcome}
 use Rattle.round_trip_run.specs.declared.Outcome.the-variants as outcome
-use Rattle.round_trip_run.specs.declared.Trip.{Trip}
-use Rattle.round_trip_run.specs.declared.Trip.the-variants as trip
 
 -- the four as a list
 abbrev pub four : ℕ → ℕ → ℕ → ℕ → List ℕ
@@ -27,12 +27,7 @@ numbersOf (outcome.Refused by n) = refusedBy by n
 numbersOf outcome.NotClosed = four 1 0 0 0
 numbersOf outcome.Disagreed = four 3 0 0 0
 
--- a trip's number: 0, or that of the refusal of what was lent
-abbrev pub numberOf : Trip → ℕ
-numberOf (trip.Ended o) = 0
-numberOf (trip.Refused n) = n
-
--- the list after it, which a refused one leaves as it was
-abbrev pub leftBy : Trip → List ℕ → List ℕ
-leftBy (trip.Ended o) before = numbersOf o
-leftBy (trip.Refused n) before = before
+-- the list after a trip that says this; a refused one leaves it as it was
+abbrev pub leftBy : Said Outcome → List ℕ → List ℕ
+leftBy (done o) before = numbersOf o
+leftBy (refused n) before = before

@@ -4,7 +4,9 @@ use round_trip_run::Outcome;
 use round_trip_run::Trip;
 ghost use mathlib.Core.Path.{_≡_};
 ghost use lib.ListN.{length};
-ghost use Rattle.celt_trip.specs.Trip.{four, leftBy, numberOf, numbersOf, refusedBy};
+ghost use Rattle.entcode.specs.Said.{number};
+ghost use Rattle.round_trip_run.specs.Outcome.{said};
+ghost use Rattle.celt_trip.specs.Trip.{four, leftBy, numbersOf, refusedBy};
 
 // The four numbers into a list.
 fn put_four(outcome: &mut [u64], how: u64, by: u64, place: u64, n: u64)
@@ -46,7 +48,7 @@ fn leave_outcome(o: Outcome, outcome: &mut [u64])
 // What a trip leaves, and its number: a refused one leaves the list as it was.
 pub fn leave_trip(t: Trip, outcome: &mut [u64]) -> u32
     requires { ⌜ length (now outcome) ≡ 4 ⌝ }
-    ensures { λ r. ⌜ (r ≡ numberOf t) × (now (outcome .exit) ≡ leftBy t (now (outcome .entry))) ⌝ }
+    ensures { λ r. ⌜ (r ≡ number (said t)) × (now (outcome .exit) ≡ leftBy (said t) (now (outcome .entry))) ⌝ }
 {
     match t {
         Trip::Ended(o) => {

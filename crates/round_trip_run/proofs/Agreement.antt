@@ -7,14 +7,13 @@ use native.Mathlib.Omega.{arith}
 use lib.IntN.{ℤ}
 use lib.ListN.{length}
 use Rattle.laws.specs.Lists.{Bytes}
+use Rattle.entcode.specs.Said.{Said}
+use Rattle.entcode.specs.Said.Said.{done, refused}
 use Rattle.entenc.specs.declared.Writer.{Writer}
-use Rattle.entenc.specs.declared.Answer.{Answer}
-use Rattle.entenc.specs.declared.Answer.the-variants as written
-use Rattle.entenc.specs.Answer.{after, closing, startOf}
+use Rattle.entenc.specs.Answer.{closing, startOf}
 use Rattle.entenc.specs.Write.{Wr, wr}
 use Rattle.rate.specs.declared.Numbers.{Numbers}
 use Rattle.rate.specs.declared.WrittenAllocation.{WrittenAllocation}
-use Rattle.rate.specs.declared.AllocWrote.{AllocWrote}
 use Rattle.rate.specs.declared.AllocWrote.the-variants as allocWritten
 use Rattle.rate.specs.Question.{Lists, Wishes}
 use Rattle.rate.specs.Answer.{afterWritten, writing}
@@ -73,13 +72,13 @@ module _ (q : Numbers) (offsets caps : List ℤ) (h : Wishes) (bytes : List ℕ)
   by-mark true a f = refl
   by-mark false a f = rw (f refl)
 
-  module _ (w : Writer) (new : startOf (length bytes) ≡ written.Next w) where
+  module _ (w : Writer) (new : startOf (length bytes) ≡ done w) where
     module _ (v : Wr) (zs : List Symbol) (ts : List Tells) (writes : writeAll ys (wr w bytes) ≡ wrote v zs ts) where
       close-agrees : (y : WrittenAllocation) (m : Lists) (filled : List ℕ) → writing q h offsets caps v blank ≡ afterWritten (allocWritten.Got y) m filled
-          → (r : Answer) (s : List ℕ) → closing (wr (y .next) filled) ≡ after r s
+          → (r : Said Writer) (s : List ℕ) → closing (wr (y .next) filled) ≡ record { said = r; bytes = s }
           → closeOutcome (agrees q offsets caps ys w (wrote v zs ts) y m) r s ≡ closeOutcome (λ s. true) r s
-      close-agrees y m filled allots (written.Refused n) s e = refl
-      close-agrees y m filled allots (written.Next u) s e =
+      close-agrees y m filled allots (refused n) s e = refl
+      close-agrees y m filled allots (done u) s e =
           by-mark (u .sink .error) (agrees q offsets caps ys w (wrote v zs ts) y m s)
           (λ f.
           sent-agrees
@@ -100,10 +99,10 @@ module _ (q : Numbers) (offsets caps : List ℤ) (h : Wishes) (bytes : List ℕ)
             fits = f;
           }))
 
-      allot-agrees : (r : AllocWrote) (m : Lists) (filled : List ℕ) → writing q h offsets caps v blank ≡ afterWritten r m filled
+      allot-agrees : (r : Said WrittenAllocation) (m : Lists) (filled : List ℕ) → writing q h offsets caps v blank ≡ record { said = r; lent = m; bytes = filled }
           → allotOutcome (agrees q offsets caps ys w (wrote v zs ts)) r m filled ≡ allotOutcome (λ y m s. true) r m filled
-      allot-agrees (allocWritten.Refused n) m filled e = refl
-      allot-agrees (allocWritten.Got y) m filled e = close-agrees y m filled e (closing (wr (y .next) filled) .said) (closing (wr (y .next) filled) .bytes) refl
+      allot-agrees (refused n) m filled e = refl
+      allot-agrees (done y) m filled e = close-agrees y m filled e (closing (wr (y .next) filled) .said) (closing (wr (y .next) filled) .bytes) refl
 
     row-agrees : (a : Wrote) → writeAll ys (wr w bytes) ≡ a
         → rowOutcome q offsets caps h (agrees q offsets caps ys) w a ≡ rowOutcome q offsets caps h (λ w a y m s. true) w a
@@ -112,10 +111,10 @@ module _ (q : Numbers) (offsets caps : List ℤ) (h : Wishes) (bytes : List ℕ)
         allot-agrees v zs ts e (x .said) (x .lent) (x .bytes) refl
     row-agrees (noWrite i n) e = refl
 
-  new-agrees : (r : Answer) → startOf (length bytes) ≡ r
+  new-agrees : (r : Said Writer) → startOf (length bytes) ≡ r
       → newOutcome q offsets caps h (agrees q offsets caps ys) bytes ys r ≡ newOutcome q offsets caps h (λ w a y m s. true) bytes ys r
-  new-agrees (written.Next w) e = row-agrees w e (writeAll ys (wr w bytes)) refl
-  new-agrees (written.Refused n) e = refl
+  new-agrees (done w) e = row-agrees w e (writeAll ys (wr w bytes)) refl
+  new-agrees (refused n) e = refl
 
 pub reader-agrees : ReaderAgrees
 reader-agrees q offsets caps h bytes ys b = new-agrees q offsets caps h bytes ys b (startOf (length bytes)) refl
@@ -129,26 +128,26 @@ numberOf (outcome.Refused by n) = 1
 numberOf outcome.NotClosed = 2
 numberOf outcome.Disagreed = 3
 
-close-not : (r : Answer) (s : List ℕ) → closeOutcome (λ s. true) r s ≡ outcome.Disagreed → ⊥
-close-not (written.Refused n) s e = let z : _≡_ {A = ℕ} 1 3 = ap numberOf e in omega arith
-close-not (written.Next u) s e = go (u .sink .error) e
+close-not : (r : Said Writer) (s : List ℕ) → closeOutcome (λ s. true) r s ≡ outcome.Disagreed → ⊥
+close-not (refused n) s e = let z : _≡_ {A = ℕ} 1 3 = ap numberOf e in omega arith
+close-not (done u) s e = go (u .sink .error) e
   where
     go : (t : Bool) → cond t outcome.NotClosed outcome.Agreed ≡ outcome.Disagreed → ⊥
     go true e = let z : _≡_ {A = ℕ} 2 3 = ap numberOf e in omega arith
     go false e = let z : _≡_ {A = ℕ} 0 3 = ap numberOf e in omega arith
 
-allot-not : (r : AllocWrote) (m : Lists) (b : List ℕ) → allotOutcome (λ y m s. true) r m b ≡ outcome.Disagreed → ⊥
-allot-not (allocWritten.Got y) m b e = close-not (closing (wr (y .next) b) .said) (closing (wr (y .next) b) .bytes) e
-allot-not (allocWritten.Refused n) m b e = let z : _≡_ {A = ℕ} 1 3 = ap numberOf e in omega arith
+allot-not : (r : Said WrittenAllocation) (m : Lists) (b : List ℕ) → allotOutcome (λ y m s. true) r m b ≡ outcome.Disagreed → ⊥
+allot-not (done y) m b e = close-not (closing (wr (y .next) b) .said) (closing (wr (y .next) b) .bytes) e
+allot-not (refused n) m b e = let z : _≡_ {A = ℕ} 1 3 = ap numberOf e in omega arith
 
 module _ (q : Numbers) (offsets caps : List ℤ) (h : Wishes) where
   row-not : (w : Writer) (a : Wrote) → rowOutcome q offsets caps h (λ w a y m s. true) w a ≡ outcome.Disagreed → ⊥
   row-not w (wrote v zs ts) e = let x = writing q h offsets caps v blank in allot-not (x .said) (x .lent) (x .bytes) e
   row-not w (noWrite i n) e = let z : _≡_ {A = ℕ} 1 3 = ap numberOf e in omega arith
 
-  new-not : (bytes : List ℕ) (ys : List Symbol) (r : Answer) → newOutcome q offsets caps h (λ w a y m s. true) bytes ys r ≡ outcome.Disagreed → ⊥
-  new-not bytes ys (written.Next w) e = row-not w (writeAll ys (wr w bytes)) e
-  new-not bytes ys (written.Refused n) e = let z : _≡_ {A = ℕ} 1 3 = ap numberOf e in omega arith
+  new-not : (bytes : List ℕ) (ys : List Symbol) (r : Said Writer) → newOutcome q offsets caps h (λ w a y m s. true) bytes ys r ≡ outcome.Disagreed → ⊥
+  new-not bytes ys (done w) e = row-not w (writeAll ys (wr w bytes)) e
+  new-not bytes ys (refused n) e = let z : _≡_ {A = ℕ} 1 3 = ap numberOf e in omega arith
 
 pub never-disagreed : NeverDisagreed
 never-disagreed q offsets caps h bytes ys b e = new-not q offsets caps h bytes ys (startOf (length bytes)) (sym (reader-agrees q offsets caps h bytes ys b) ∙ e)

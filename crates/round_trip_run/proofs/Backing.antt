@@ -5,8 +5,8 @@ use mathlib.Core.Bool.{Bool, false, _&&_, and-false}
 use mathlib.Core.List.{List}
 use lib.IntN.{ℤ}
 use lib.ListN.{length}
+use Rattle.entcode.specs.Said.Said.{done, refused}
 use Rattle.entdec.specs.declared.Reader.{Reader}
-use Rattle.entdec.specs.declared.Started.the-variants.{At, Refused}
 use Rattle.entdec.specs.Answer.{startOf as readerOver}
 use Rattle.entenc.specs.declared.Writer.{Writer}
 use Rattle.entenc.specs.Write.{wr}
@@ -59,9 +59,9 @@ module _ (l t : List ℕ) (q : Numbers) (offsets caps : List ℤ) (y : WrittenAl
 -- ---- a new reader; k is a copy of the bytes
 
 module _ (q : Numbers) (offsets caps : List ℤ) (ys : List Symbol) (w : Writer) (bytes : List ℕ) (y : WrittenAllocation) (m : Lists) (s : List ℕ) where
-  pub reader-at : {b : Bool} (d : Reader) (k : List ℕ) → readerOver s ≡ At d → k ≡ bytes
+  pub reader-at : {b : Bool} (d : Reader) (k : List ℕ) → readerOver s ≡ done d → k ≡ bytes
       → b ≡ (sameTells (tellsW w) (tellsR d) && rowAgrees q offsets caps y m s (writeAll ys (wr w k)) (readAll (kinds ys) s d)) → b ≡ agrees q offsets caps ys w (writeAll ys (wr w bytes)) y m s
   reader-at d k e p h = rw (e, ← p) h
 
-  pub reader-no : {n : ℕ} → readerOver s ≡ Refused n → false ≡ agrees q offsets caps ys w (writeAll ys (wr w bytes)) y m s
+  pub reader-no : {n : ℕ} → readerOver s ≡ refused n → false ≡ agrees q offsets caps ys w (writeAll ys (wr w bytes)) y m s
   reader-no e = rw e

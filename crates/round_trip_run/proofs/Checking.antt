@@ -7,11 +7,12 @@ use native.Mathlib.Omega.{arith}
 use lib.ListN.{length}
 use borrow.Author.Tests.{eq-eqb, ne-eqb}
 use Rattle.entcode.specs.Refusal.{refusal}
+use Rattle.entcode.specs.Said.{answer}
 use Rattle.round_trip_run.specs.declared.given.Given.{Given}
 use Rattle.round_trip_run.specs.declared.Outcome.{Outcome}
 use Rattle.round_trip_run.specs.declared.Trip.the-variants as trip
 use Rattle.round_trip_run.specs.Given.{givenAt, givenOk, givensOk, refusalGiven}
-use Rattle.round_trip_run.specs.Outcome.{tripOf}
+use Rattle.round_trip_run.specs.Outcome.{said}
 
 -- from the first on
 pub check-all : (l : List ℕ) (room n : ℕ) → givensOk l room (n - 0) 0 ≡ givensOk l room n 0
@@ -49,11 +50,11 @@ module _ (l tables : List ℕ) {r : ℕ} where
 
 -- ---- the answer
 
-pub trip-ended : (n : ℕ) {x y : Outcome} → n ≡ 0 → x ≡ y → trip.Ended x ≡ tripOf n y
-unfolding tripOf
+pub trip-ended : (n : ℕ) {x y : Outcome} → n ≡ 0 → x ≡ y → said (trip.Ended x) ≡ answer n y
+unfolding answer
 trip-ended n h e = rw (h, e)
 
-pub trip-refused : (n : ℕ) (o : Outcome) → (n ≡ 0 → ⊥) → trip.Refused n ≡ tripOf n o
-unfolding tripOf
+pub trip-refused : (n : ℕ) (o : Outcome) → (n ≡ 0 → ⊥) → said (trip.Refused n) ≡ answer n o
+unfolding answer
 trip-refused zero o h = absurd (h refl)
 trip-refused (suc n) o h = refl

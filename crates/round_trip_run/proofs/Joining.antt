@@ -7,8 +7,8 @@ use native.Mathlib.Omega.{arith}
 use lib.IntN.{ℤ}
 use lib.ListN.{length}
 use borrow.Author.Tests.{eq-eqb}
-use Rattle.entcode.specs.declared.Told.{Told}
-use Rattle.entcode.specs.declared.Told.the-variants.{Used, Refused}
+use Rattle.entcode.specs.Said.{Said}
+use Rattle.entcode.specs.Said.Said.{done, refused}
 use Rattle.entdec.specs.declared.Reader.{Reader}
 use Rattle.entenc.specs.declared.Writer.{Writer}
 use Rattle.entenc.specs.Write.{Wr, wr}
@@ -87,9 +87,9 @@ module _ (l t bytes : List ℕ) (w : Writer) {b : List ℕ} (r : Row) (k : List 
 
 -- ---- and read
 
-told-same : (a : Told) → sameTold a a ≡ true
-told-same (Used n) = eq-eqb n n refl
-told-same (Refused n) = eq-eqb n n refl
+told-same : (a : Said ℕ) → sameTold a a ≡ true
+told-same (done n) = eq-eqb n n refl
+told-same (refused n) = eq-eqb n n refl
 
 pub tells-equal : (a b : Tells) → b ≡ a → sameTells a b ≡ true
 tells-equal a b e = rw (e, told-same (a .bits), told-same (a .eighths))

@@ -9,3 +9,4 @@ pub mod Joining
 pub mod Backing
 pub mod Outcomes
 pub mod Agreement
+pub mod Said

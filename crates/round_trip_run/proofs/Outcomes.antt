@@ -1,13 +1,13 @@
 -- Each step of the writer's side, by its call's answer. Assumes nothing.
 use Prim.Native.Nat.{ℕ}
-use mathlib.Core.Path.{_≡_}
+use mathlib.Core.Path.{_≡_, ap, _∙_}
 use mathlib.Core.Bool.{Bool, cond}
 use mathlib.Core.List.{List}
 use lib.IntN.{ℤ}
 use Rattle.entenc.specs.declared.Writer.{Writer}
 use Rattle.entenc.specs.declared.Answer.{Answer}
 use Rattle.entenc.specs.declared.Answer.the-variants as written
-use Rattle.entenc.specs.Answer.{after, closing}
+use Rattle.entenc.specs.Answer.{After, said, after, closing}
 use Rattle.entenc.specs.Write.{Wr, wr}
 use Rattle.rate.specs.declared.Numbers.{Numbers}
 use Rattle.rate.specs.declared.WrittenAllocation.{WrittenAllocation}
@@ -29,10 +29,12 @@ use Rattle.round_trip_run.specs.ReadBack.{blank}
 module _ (w : Wr) {r : Answer} {l : List ℕ} (e : after r l ≡ closing w) (reads : List ℕ → Bool) where
   pub close-next : (u : Writer) {o : Outcome} → r ≡ written.Next u → o ≡ cond (u .sink .error) outcome.NotClosed (cond (reads l) outcome.Agreed outcome.Disagreed)
       → o ≡ closeOutcome reads (closing w .said) (closing w .bytes)
-  close-next u p k = rw (← e, p) k
+  close-next u {o} p k = let z : o ≡ closeOutcome reads (said r) l = rw p k in z ∙ ap (λ (x : After). closeOutcome reads (x .said) (x .bytes)) e
 
   pub close-no : {n : ℕ} → r ≡ written.Refused n → outcome.Refused call.Close n ≡ closeOutcome reads (closing w .said) (closing w .bytes)
-  close-no p = rw (← e, p)
+  close-no {n} p =
+      let z : outcome.Refused call.Close n ≡ closeOutcome reads (said r) l = rw p in
+      z ∙ ap (λ (x : After). closeOutcome reads (x .said) (x .bytes)) e
 
 -- ---- the allocation
 

@@ -5,7 +5,7 @@ use mathlib.Core.Bool.{Bool, true, false, cond, _&&_}
 use mathlib.Core.List.{List}
 use native.Mathlib.Omega.{arith}
 use lib.Dec.{eqb}
-use Rattle.entcode.specs.declared.Told.{Told}
+use Rattle.entcode.specs.Said.{Said}
 use Rattle.entdec.specs.declared.Reader.{Reader}
 use Rattle.entenc.specs.declared.Writer.{Writer}
 use Rattle.entenc.specs.Write.{Wr, wr}
@@ -31,7 +31,7 @@ use Rattle.round_trip_run.specs.Same.{sameTells, sameTold}
 
 -- ---- one symbol's answers
 
-pub tells-same : (w : Writer) (d : Reader) {a b p q : Told} {x y : Bool} → a ≡ tellsW w .bits → b ≡ tellsR d .bits → p ≡ tellsW w .eighths → q ≡ tellsR d .eighths
+pub tells-same : (w : Writer) (d : Reader) {a b p q : Said ℕ} {x y : Bool} → a ≡ tellsW w .bits → b ≡ tellsR d .bits → p ≡ tellsW w .eighths → q ≡ tellsR d .eighths
     → x ≡ sameTold a b → y ≡ sameTold p q → x && y ≡ sameTells (tellsW w) (tellsR d)
 tells-same w d e₁ e₂ e₃ e₄ h k = rw (h, k, e₁, e₂, e₃, e₄)
 

@@ -1,20 +1,18 @@
 -- How a trip ends: what the public call answers.
-use Prim.Native.Nat.{ℕ, zero, suc}
+use Prim.Native.Nat.{ℕ}
 use mathlib.Core.Path.{_≡_}
 use mathlib.Core.Bool.{Bool, true, cond}
 use mathlib.Core.List.{List}
 use lib.IntN.{ℤ}
 use lib.ListN.{length}
 use Rattle.laws.specs.Lists.{Bytes}
+use Rattle.entcode.specs.Said.{Said}
+use Rattle.entcode.specs.Said.Said.{done, refused}
 use Rattle.entenc.specs.declared.Writer.{Writer}
-use Rattle.entenc.specs.declared.Answer.{Answer}
-use Rattle.entenc.specs.declared.Answer.the-variants as written
 use Rattle.entenc.specs.Answer.{closing, startOf}
 use Rattle.entenc.specs.Write.{wr}
 use Rattle.rate.specs.declared.Numbers.{Numbers}
 use Rattle.rate.specs.declared.WrittenAllocation.{WrittenAllocation}
-use Rattle.rate.specs.declared.AllocWrote.{AllocWrote}
-use Rattle.rate.specs.declared.AllocWrote.the-variants as allocWritten
 use Rattle.rate.specs.Question.{Lists, Wishes}
 use Rattle.rate.specs.Answer.{writing}
 use Rattle.round_trip.specs.Calls.{Symbol}
@@ -30,14 +28,14 @@ use Rattle.round_trip_run.specs.ReadBack.{agrees, blank}
 -- ---- the writer's side; `reads` is what a reader says of the packet
 
 -- after a close that left these bytes: NotClosed where it set the error mark
-abbrev pub closeOutcome : (List ℕ → Bool) → Answer → List ℕ → Outcome
-closeOutcome reads (written.Next u) s = cond (u .sink .error) outcome.NotClosed (cond (reads s) outcome.Agreed outcome.Disagreed)
-closeOutcome reads (written.Refused n) s = outcome.Refused call.Close n
+abbrev pub closeOutcome : (List ℕ → Bool) → Said Writer → List ℕ → Outcome
+closeOutcome reads (done u) s = cond (u .sink .error) outcome.NotClosed (cond (reads s) outcome.Agreed outcome.Disagreed)
+closeOutcome reads (refused n) s = outcome.Refused call.Close n
 
 -- after the allocation, which left these lists and bytes
-abbrev pub allotOutcome : (WrittenAllocation → Lists → List ℕ → Bool) → AllocWrote → Lists → List ℕ → Outcome
-allotOutcome reads (allocWritten.Got y) m bytes = closeOutcome (reads y m) (closing (wr (y .next) bytes) .said) (closing (wr (y .next) bytes) .bytes)
-allotOutcome reads (allocWritten.Refused n) m bytes = outcome.Refused call.Allocation n
+abbrev pub allotOutcome : (WrittenAllocation → Lists → List ℕ → Bool) → Said WrittenAllocation → Lists → List ℕ → Outcome
+allotOutcome reads (done y) m bytes = closeOutcome (reads y m) (closing (wr (y .next) bytes) .said) (closing (wr (y .next) bytes) .bytes)
+allotOutcome reads (refused n) m bytes = outcome.Refused call.Allocation n
 
 module _ (q : Numbers) (offsets caps : List ℤ) (h : Wishes) where
   -- after the symbols, which began with the new writer w
@@ -47,9 +45,9 @@ module _ (q : Numbers) (offsets caps : List ℤ) (h : Wishes) where
   rowOutcome reads w (noWrite i n) = outcome.Refused (call.Symbol i) n
 
   -- after a new writer over the bytes
-  abbrev pub newOutcome : (Writer → Wrote → WrittenAllocation → Lists → List ℕ → Bool) → List ℕ → List Symbol → Answer → Outcome
-  newOutcome reads bytes ys (written.Next w) = rowOutcome reads w (writeAll ys (wr w bytes))
-  newOutcome reads bytes ys (written.Refused n) = outcome.Refused call.New n
+  abbrev pub newOutcome : (Writer → Wrote → WrittenAllocation → Lists → List ℕ → Bool) → List ℕ → List Symbol → Said Writer → Outcome
+  newOutcome reads bytes ys (done w) = rowOutcome reads w (writeAll ys (wr w bytes))
+  newOutcome reads bytes ys (refused n) = outcome.Refused call.New n
 
   -- ---- the trip
 
@@ -61,10 +59,10 @@ module _ (q : Numbers) (offsets caps : List ℤ) (h : Wishes) where
   abbrev pub writtenOutcome : List ℕ → List Symbol → Outcome
   writtenOutcome bytes ys = newOutcome (λ w a y m s. true) bytes ys (startOf (length bytes))
 
--- with the number of the refusal of what was lent, 0 for none
-unfoldable pub tripOf : ℕ → Outcome → Trip
-tripOf zero o = trip.Ended o
-tripOf (suc n) o = trip.Refused (suc n)
+-- what an answer of the call says
+abbrev pub said : Trip → Said Outcome
+said (trip.Ended o) = done o
+said (trip.Refused n) = refused n
 
 -- ---- theorems, by the theorem of round_trip
 

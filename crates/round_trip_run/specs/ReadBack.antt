@@ -4,15 +4,14 @@ use mathlib.Core.Bool.{Bool, false, _&&_}
 use mathlib.Core.List.{List}
 use lib.IntN.{ℤ, pos}
 use lib.ListN.{replicate}
+use Rattle.entcode.specs.Said.{Said}
+use Rattle.entcode.specs.Said.Said.{done, refused}
 use Rattle.entdec.specs.declared.Reader.{Reader}
-use Rattle.entdec.specs.declared.Started.{Started}
-use Rattle.entdec.specs.declared.Started.the-variants as started
 use Rattle.entdec.specs.Answer.{startOf as readerOver}
 use Rattle.entenc.specs.declared.Writer.{Writer}
 use Rattle.rate.specs.declared.Numbers.{Numbers}
+use Rattle.rate.specs.declared.ReadAllocation.{ReadAllocation}
 use Rattle.rate.specs.declared.WrittenAllocation.{WrittenAllocation}
-use Rattle.rate.specs.declared.AllocRead.{AllocRead}
-use Rattle.rate.specs.declared.AllocRead.the-variants as allocRead
 use Rattle.rate.specs.Question.{Lists, lists}
 use Rattle.rate.specs.Answer.{reading}
 use Rattle.round_trip.specs.Calls.{Symbol, tellsR, tellsW}
@@ -30,12 +29,12 @@ blank = lists zeros zeros zeros
 
 -- y and the lists m are the allocation as it was written
 module _ (q : Numbers) (offsets caps : List ℤ) (y : WrittenAllocation) (m : Lists) where
-  -- the reader's answer and its lists: the four numbers, all entries, and what is told after it
-  abbrev pub sameShares : AllocRead → Lists → Bool
-  sameShares (allocRead.Got x) n =
+  -- what the reader is told and its lists: the four numbers, all entries, and what is told after it
+  abbrev pub sameShares : Said ReadAllocation → Lists → Bool
+  sameShares (done x) n =
       sameNumbers y x && sameInts (m .pulses) (n .pulses) && sameInts (m .fine) (n .fine) && sameInts (m .priorities) (n .priorities)
       && sameTells (tellsW (y .next)) (tellsR (x .next))
-  sameShares (allocRead.Refused k) n = false
+  sameShares (refused k) n = false
 
   -- what the reader e gets from the packet s
   abbrev pub sharesAgree : List ℕ → Reader → Bool
@@ -48,9 +47,9 @@ module _ (q : Numbers) (offsets caps : List ℤ) (y : WrittenAllocation) (m : Li
   rowAgrees s (noWrite i n) r = false
 
   -- a new reader, which is told the kinds alone; w is the new writer, and what both tell before the first symbol is compared too
-  abbrev pub readerAgrees : List Symbol → Writer → Wrote → List ℕ → Started → Bool
-  readerAgrees ys w a s (started.At d) = sameTells (tellsW w) (tellsR d) && rowAgrees s a (readAll (kinds ys) s d)
-  readerAgrees ys w a s (started.Refused n) = false
+  abbrev pub readerAgrees : List Symbol → Writer → Wrote → List ℕ → Said Reader → Bool
+  readerAgrees ys w a s (done d) = sameTells (tellsW w) (tellsR d) && rowAgrees s a (readAll (kinds ys) s d)
+  readerAgrees ys w a s (refused n) = false
 
 -- The reader of the packet s agrees: w is the new writer, a the row as it was written, y and m the allocation
 abbrev pub agrees : Numbers → List ℤ → List ℤ → List Symbol → Writer → Wrote → WrittenAllocation → Lists → List ℕ → Bool

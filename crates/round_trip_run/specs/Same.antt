@@ -1,11 +1,12 @@
 -- What is compared after a trip: what is told, values, and allocations.
+use Prim.Native.Nat.{ℕ}
 use mathlib.Core.Bool.{Bool, true, false, _&&_}
 use mathlib.Core.List.{List, [], _∷_}
 use lib.Dec.{eqb}
 use lib.IntN.{ℤ}
 use Rattle.laws.specs.Signs.{inRange}
-use Rattle.entcode.specs.declared.Told.{Told}
-use Rattle.entcode.specs.declared.Told.the-variants.{Used, Refused}
+use Rattle.entcode.specs.Said.{Said}
+use Rattle.entcode.specs.Said.Said.{done, refused}
 use Rattle.rate.specs.declared.ReadAllocation.{ReadAllocation}
 use Rattle.rate.specs.declared.WrittenAllocation.{WrittenAllocation}
 use Rattle.round_trip.specs.Calls.{Symbol, Tells, countOf}
@@ -19,12 +20,12 @@ alike same (x ∷ l) (y ∷ m) = same x y && alike same l m
 
 -- ---- what is told
 
--- two answers of tell or of tell_frac
-abbrev pub sameTold : Told → Told → Bool
-sameTold (Used m) (Used n) = eqb m n
-sameTold (Used m) (Refused n) = false
-sameTold (Refused m) (Used n) = false
-sameTold (Refused m) (Refused n) = eqb m n
+-- what two answers of tell or of tell_frac say
+abbrev pub sameTold : Said ℕ → Said ℕ → Bool
+sameTold (done m) (done n) = eqb m n
+sameTold (done m) (refused n) = false
+sameTold (refused m) (done n) = false
+sameTold (refused m) (refused n) = eqb m n
 
 -- of both
 abbrev pub sameTells : Tells → Tells → Bool

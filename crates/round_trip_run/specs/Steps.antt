@@ -1,16 +1,14 @@
 -- One symbol written, or read, with its value as a count; and what the code answers for it.
 use Prim.Native.Nat.{ℕ}
 use mathlib.Core.List.{List}
+use Rattle.entcode.specs.Said.{Said}
+use Rattle.entcode.specs.Said.Said.{done, refused}
 use Rattle.entdec.specs.declared.Reader.{Reader}
-use Rattle.entdec.specs.declared.Answer.{Answer as Read}
-use Rattle.entdec.specs.declared.Answer.the-variants as read
-use Rattle.entenc.specs.declared.Answer.{Answer as Wrote}
-use Rattle.entenc.specs.declared.Answer.the-variants as wrote
+use Rattle.entdec.specs.declared.Read.{Read}
+use Rattle.entenc.specs.declared.Writer.{Writer}
 use Rattle.entenc.specs.Write.{Wr, wr}
-use Rattle.laplace.specs.declared.LapRead.{LapRead}
-use Rattle.laplace.specs.declared.LapRead.the-variants as lapRead
-use Rattle.laplace.specs.declared.LapWrote.{LapWrote}
-use Rattle.laplace.specs.declared.LapWrote.the-variants as lapWrote
+use Rattle.laplace.specs.declared.LapSym.{LapSym}
+use Rattle.laplace.specs.declared.LapDone.{LapDone}
 use Rattle.laplace.specs.Model.{codeOf}
 use Rattle.round_trip.specs.Calls.{Kind, Value, Symbol, countOf, Put, Took, writeCall, readCall}
 use Rattle.round_trip.specs.Calls.Put.{put, noPut}
@@ -34,14 +32,14 @@ abbrev pub putIs : PutAnswer → List ℕ → Put ℕ
 putIs (putAnswer.Next y) bytes = put (y .count) (wr (y .next) bytes)
 putIs (putAnswer.Refused n) bytes = noPut n
 
--- a call's answer as the code's
-abbrev pub plainPut : Wrote → ℕ → PutAnswer
-plainPut (wrote.Next w) v = putAnswer.Next (record { count = v; next = w })
-plainPut (wrote.Refused n) v = putAnswer.Refused n
+-- what a call says, as the code's answer
+abbrev pub plainPut : Said Writer → ℕ → PutAnswer
+plainPut (done w) v = putAnswer.Next (record { count = v; next = w })
+plainPut (refused n) v = putAnswer.Refused n
 
-abbrev pub lapPut : LapWrote → PutAnswer
-lapPut (lapWrote.Next y) = putAnswer.Next (record { count = codeOf (y .value); next = y .next })
-lapPut (lapWrote.Refused n) = putAnswer.Refused n
+abbrev pub lapPut : Said LapDone → PutAnswer
+lapPut (done y) = putAnswer.Next (record { count = codeOf (y .value); next = y .next })
+lapPut (refused n) = putAnswer.Refused n
 
 -- ---- read
 
@@ -57,10 +55,10 @@ abbrev pub tookIs : TookAnswer → Took ℕ
 tookIs (tookAnswer.Got y) = took (y .count) (y .next)
 tookIs (tookAnswer.Refused n) = noTook n
 
-abbrev pub plainTook : Read → TookAnswer
-plainTook (read.Got y) = tookAnswer.Got (record { count = y .value; next = y .next })
-plainTook (read.Refused n) = tookAnswer.Refused n
+abbrev pub plainTook : Said Read → TookAnswer
+plainTook (done y) = tookAnswer.Got (record { count = y .value; next = y .next })
+plainTook (refused n) = tookAnswer.Refused n
 
-abbrev pub lapTook : LapRead → TookAnswer
-lapTook (lapRead.Got y) = tookAnswer.Got (record { count = codeOf (y .value); next = y .next })
-lapTook (lapRead.Refused n) = tookAnswer.Refused n
+abbrev pub lapTook : Said LapSym → TookAnswer
+lapTook (done y) = tookAnswer.Got (record { count = codeOf (y .value); next = y .next })
+lapTook (refused n) = tookAnswer.Refused n

@@ -3,8 +3,9 @@ use entenc::Answer;
 use entenc::Writer;
 use rate::Numbers;
 ghost use mathlib.Core.Path.{_≡_};
+ghost use Rattle.entcode.specs.Said.{answer};
 ghost use Rattle.round_trip_run.specs.Given.{refusalGiven, symbolsOf, wishesOf};
-ghost use Rattle.round_trip_run.specs.Outcome.{outcomeOf, tripOf};
+ghost use Rattle.round_trip_run.specs.Outcome.{outcomeOf, said};
 
 pub mod back;
 pub mod given;
@@ -82,7 +83,7 @@ pub fn round_trip(
     caps: &[i32],
 ) -> Trip
     ensures { λ r.
-        ⌜ r ≡ tripOf (refusalGiven (now (symbols .entry)) (now (tables .entry)))
+        ⌜ said r ≡ answer (refusalGiven (now (symbols .entry)) (now (tables .entry)))
         (outcomeOf q (now (offsets .entry)) (now (caps .entry)) (wishesOf h) (now (bytes .entry)) (symbolsOf (now (symbols .entry)) (now (tables .entry)))) ⌝ }
 {
     let no = given::refusal(symbols, tables);

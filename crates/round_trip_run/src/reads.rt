@@ -5,6 +5,8 @@ use entdec::Answer;
 use entdec::Reader;
 use laplace::LapRead;
 ghost use mathlib.Core.Path.{_≡_};
+ghost use Rattle.entdec.specs.Answer.{said};
+ghost use Rattle.laplace.specs.Answer.{saidRead};
 ghost use Rattle.round_trip_run.specs.Given.{laterOf, symbolOf};
 ghost use Rattle.round_trip_run.specs.Steps.{lapTook, plainTook, takeSymbol, tookIs};
 
@@ -22,7 +24,7 @@ pub enum Took {
 
 // The answer of a call that reads a number.
 fn plain(answer: Answer) -> Took
-    ensures { λ r. ⌜ r ≡ plainTook answer ⌝ }
+    ensures { λ r. ⌜ r ≡ plainTook (said answer) ⌝ }
 {
     match answer {
         Answer::Got(y) => {
@@ -38,7 +40,7 @@ fn plain(answer: Answer) -> Took
 
 // The answer of the call that reads a Laplace value.
 fn counted(answer: LapRead) -> Took
-    ensures { λ r. ⌜ r ≡ lapTook answer ⌝ }
+    ensures { λ r. ⌜ r ≡ lapTook (saidRead answer) ⌝ }
 {
     match answer {
         LapRead::Got(y) => {

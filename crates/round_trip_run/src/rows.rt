@@ -19,7 +19,8 @@ ghost use Rattle.round_trip.specs.Calls.{tellsR, tellsW};
 ghost use Rattle.round_trip_run.specs.declared.rows.Pairs.the-variants.{Differs};
 ghost use Rattle.round_trip_run.specs.declared.reads.Took.the-variants.{Got};
 ghost use Rattle.round_trip_run.specs.declared.writes.Put.the-variants.{Next};
-ghost use Rattle.entcode.specs.declared.Told.the-variants.{Used, Refused};
+ghost use Rattle.entcode.specs.Counts.{saidTold};
+ghost use Rattle.entcode.specs.Said.Said.{done, refused};
 ghost use Rattle.round_trip_run.specs.Given.{symbolOf};
 ghost use Rattle.round_trip_run.specs.Steps.{putSymbol, takeSymbol};
 ghost use Rattle.round_trip_run.specs.Runs.{pairBy, pairFrom, pairOf, pairsIs, rowIs, runFrom};
@@ -71,7 +72,7 @@ pub enum Pairs {
 
 // Does the answer say so many?
 fn says_used(t: Told, n: u32) -> bool
-    ensures { λ r. ⌜ r ≡ sameTold (Used n) t ⌝ }
+    ensures { λ r. ⌜ r ≡ sameTold (done n) (saidTold t) ⌝ }
 {
     match t {
         Told::Used(m) => n == m,
@@ -81,7 +82,7 @@ fn says_used(t: Told, n: u32) -> bool
 
 // Is the answer this refusal?
 fn says_refused(t: Told, n: u32) -> bool
-    ensures { λ r. ⌜ r ≡ sameTold (Refused n) t ⌝ }
+    ensures { λ r. ⌜ r ≡ sameTold (refused n) (saidTold t) ⌝ }
 {
     match t {
         Told::Used(_) => false,
@@ -91,7 +92,7 @@ fn says_refused(t: Told, n: u32) -> bool
 
 // Are two answers of tell the same?
 fn same_told(a: Told, b: Told) -> bool
-    ensures { λ r. ⌜ r ≡ sameTold a b ⌝ }
+    ensures { λ r. ⌜ r ≡ sameTold (saidTold a) (saidTold b) ⌝ }
 {
     match a {
         Told::Used(n) => says_used(b, n),

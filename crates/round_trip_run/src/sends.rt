@@ -15,9 +15,9 @@ ghost use mathlib.Core.Path.{_≡_};
 ghost use mathlib.Core.Bool.{cond};
 ghost use Prim.Native.Nat.{_≤_};
 ghost use lib.ListN.{length};
+ghost use Rattle.entcode.specs.Said.Said.{done};
 ghost use Rattle.entenc.specs.Write.{wr};
 ghost use Rattle.entenc.specs.Answer.{closing, startOf};
-ghost use Rattle.entenc.specs.declared.Answer.the-variants.{Next};
 ghost use Rattle.rate.specs.Answer.{writing};
 ghost use Rattle.rate.specs.Question.{lists};
 ghost use Rattle.round_trip.specs.Rows.{writeAll};
@@ -209,7 +209,7 @@ pub fn begin(
     offsets: &[i32],
     caps: &[i32],
 ) -> Outcome
-    requires { ⌜ startOf (length (now bytes)) ≡ Next w ⌝ }
+    requires { ⌜ startOf (length (now bytes)) ≡ done w ⌝ }
     ensures { λ r.
         ⌜ r ≡ rowOutcome q (now (offsets .entry)) (now (caps .entry)) (wishesOf h) (agrees q (now (offsets .entry)) (now (caps .entry)) (symbolsOf (now (symbols .entry)) (now (tables .entry)))) w (writeAll (symbolsOf (now (symbols .entry)) (now (tables .entry))) (wr w (now (bytes .entry)))) ⌝ }
 {

@@ -5,7 +5,9 @@ use entenc::Answer;
 use entenc::Writer;
 use laplace::LapWrote;
 ghost use mathlib.Core.Path.{_≡_};
+ghost use Rattle.entenc.specs.Answer.{said};
 ghost use Rattle.entenc.specs.Write.{wr};
+ghost use Rattle.laplace.specs.Answer.{saidWrote};
 ghost use Rattle.round_trip_run.specs.Given.{laterOf, symbolOf};
 ghost use Rattle.round_trip_run.specs.Steps.{lapPut, plainPut, putIs, putSymbol};
 
@@ -23,7 +25,7 @@ pub enum Put {
 
 // The answer of a call that writes its value as it is.
 fn plain(answer: Answer, count: u32) -> Put
-    ensures { λ r. ⌜ r ≡ plainPut answer count ⌝ }
+    ensures { λ r. ⌜ r ≡ plainPut (said answer) count ⌝ }
 {
     match answer {
         Answer::Next(next) => Put::Next(Written { count, next }),
@@ -33,7 +35,7 @@ fn plain(answer: Answer, count: u32) -> Put
 
 // The answer of the call that may adjust it.
 fn adjusted(answer: LapWrote) -> Put
-    ensures { λ r. ⌜ r ≡ lapPut answer ⌝ }
+    ensures { λ r. ⌜ r ≡ lapPut (saidWrote answer) ⌝ }
 {
     match answer {
         LapWrote::Next(y) => {

@@ -1,5 +1,6 @@
 -- `round_trip_run::run`. Assumes nothing.
-use mathlib.Core.Path.{sym, _∙_}
+use mathlib.Core.Path.{ap, sym, _∙_}
+use Rattle.entenc.specs.Answer.{said}
 use borrow.Author.Needs.{needs}
 use Rattle.round_trip_run.proofs.run.Statement.{statement}
 use Rattle.round_trip_run.proofs.run.Tie as tie
@@ -11,16 +12,16 @@ enum-known-answer : tie.Need-enum-known-answer
 enum-known-answer c = search needs
 
 begin-requires : tie.Need-begin-requires
-begin-requires c κs = sym (c .before .before .before .new .ensures) ∙ c .before .answer .given .1
+begin-requires c κs = sym (c .before .before .before .new .ensures) ∙ ap said (c .before .answer .given .1)
 
 enum-known-answer-2 : tie.Need-enum-known-answer-2
 enum-known-answer-2 c = search needs
 
 returns : tie.Need-returns
-returns c = rw (sym (c .before .before .before .before .new .ensures) ∙ c .before .before .answer .given .1) (c .begin .ensures)
+returns c = rw (sym (c .before .before .before .before .new .ensures) ∙ ap said (c .before .before .answer .given .1)) (c .begin .ensures)
 
 returns-2 : tie.Need-returns-2
-returns-2 c = rw (sym (c .before .before .before .new .ensures) ∙ c .before .answer2 .given .1)
+returns-2 c = rw (sym (c .before .before .before .new .ensures) ∙ ap said (c .before .answer2 .given .1))
 
 pub run-spec : {M : Type 1} → statement M
 run-spec =

@@ -1,9 +1,10 @@
 -- `round_trip_run::back::read_back`, by whether the packet opens. Assumes nothing.
 use denote.Ref.{now}
-use mathlib.Core.Path.{sym, _∙_}
+use mathlib.Core.Path.{ap, sym, _∙_}
 use Rattle.rate.specs.Question.{lists}
 use Rattle.round_trip_run.specs.Given.{symbolsOf}
 use Rattle.round_trip_run.proofs.Backing.{reader-at, reader-no}
+use Rattle.entdec.specs.Answer.{saidStart}
 use borrow.Author.Needs.{needs}
 use Rattle.round_trip_run.proofs.back.read_back.Statement.{statement}
 use Rattle.round_trip_run.proofs.back.read_back.Tie as tie
@@ -30,7 +31,7 @@ returns : tie.Need-returns
 returns c =
     let a = c .before .before .before .before .before .before .before .before .before .before .before .before .before .before .before .before .before .args in
     reader-at (a .q) (now (a .offsets)) (now (a .caps)) (symbolsOf (now (a .symbols)) (now (a .tables))) (a .w) (now (a .bytes)) (a .y) (lists (now (a .pulses)) (now (a .fine)) (now (a .priorities))) (now (a .s))
-    (c .before .before .before .before .before .answer .given .0 .0) _ (sym (c .before .before .before .before .before .before .before .new .ensures) ∙ c .before .before .before .before .before .answer .given .1) (c .before .before .before .before .before .before .before .before .before .before .copy .ensures) (c .before .before .read-on .ensures)
+    (c .before .before .before .before .before .answer .given .0 .0) _ (sym (c .before .before .before .before .before .before .before .new .ensures) ∙ ap saidStart (c .before .before .before .before .before .answer .given .1)) (c .before .before .before .before .before .before .before .before .before .before .copy .ensures) (c .before .before .read-on .ensures)
 
 same-length-2 : tie.Need-same-length-2
 same-length-2 c = search needs
@@ -38,7 +39,7 @@ same-length-2 c = search needs
 returns-2 : tie.Need-returns-2
 returns-2 c =
     let a = c .before .before .before .before .before .before .before .before .before .before .before .before .args in
-    reader-no (a .q) (now (a .offsets)) (now (a .caps)) (symbolsOf (now (a .symbols)) (now (a .tables))) (a .w) (now (a .bytes)) (a .y) (lists (now (a .pulses)) (now (a .fine)) (now (a .priorities))) (now (a .s)) (sym (c .before .before .new .ensures) ∙ c .enum-told .given .1)
+    reader-no (a .q) (now (a .offsets)) (now (a .caps)) (symbolsOf (now (a .symbols)) (now (a .tables))) (a .w) (now (a .bytes)) (a .y) (lists (now (a .pulses)) (now (a .fine)) (now (a .priorities))) (now (a .s)) (sym (c .before .before .new .ensures) ∙ ap saidStart (c .enum-told .given .1))
 
 pub read-back-spec : {M : Type 1} → statement M
 read-back-spec =
