@@ -37,9 +37,8 @@ abbrev adds : ℕ → ℤ → Float
 adds byte fine =
     getD (finaliseReading (pos 1) (pos 0) (pos 1) (fine ∷ replicate 20 (pos 0)) (replicate 21 (pos 0)) (pos 1) (byte ∷ []) (freshReader (byte ∷ [])) silence .energies) 0 nan
 
--- with 7 fine bits a bit 1 adds 1/512, and a bit 0 takes it away; with 8 nothing is read
-pub last-bit : map (λ (q : ℕ × ℤ). adds (q .0) (q .1)) ((1, pos 7) ∷ (0, pos 7) ∷ (1, pos 8) ∷ [])
-    ≡ fin false 1 (negsuc 8) ∷ fin true 1 (negsuc 8) ∷ fin false 0 (pos 0) ∷ []
+-- with 7 fine bits a bit 0 takes 1/512 away; with 8 nothing is read (what a bit 1 adds is among document 01's figures, crate together)
+pub last-bit : map (λ (q : ℕ × ℤ). adds (q .0) (q .1)) ((0, pos 7) ∷ (1, pos 8) ∷ []) ≡ fin true 1 (negsuc 8) ∷ fin false 0 (pos 0) ∷ []
 unfolding answer lentAfter refusalFinalise readRefusal refusal readerOk countsOk bandsOk every finalise spendPass overPlaces spendBand takes spendAt offsetOf readSym readBits
     fetches fetch byteBack freshReader pulls pull leadingZeros add sub mul div ofInt
 last-bit = refl

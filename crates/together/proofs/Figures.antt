@@ -12,11 +12,11 @@ use Rattle.modes.specs.Caps.{caps as capTable, capEntry}
 use Rattle.entcode.specs.Counts.{countsOk}
 use Rattle.entcode.specs.Range.{turns, off, wid}
 use Rattle.entcode.specs.Refusal.{refusal}
+use Rattle.entcode.specs.Said.{answer, lentAfter}
 use Rattle.entdec.specs.Read.{pull, pulls, place, update, byteBack, fetch, fetches, readBits, freshReader}
 use Rattle.entdec.specs.Symbols.{readSym}
 use Rattle.entdec.specs.Rule.{readerOk, readRefusal}
 use Rattle.cwrs_counts.specs.Count.{Vn}
-use Rattle.rate_cache.specs.Answers.{answer as lookupAnswer}
 use Rattle.rate_cache.specs.Lookups.{pulsesAt}
 use Rattle.rate_cache.specs.Pulses.{getPulses}
 use Rattle.rate_def.specs.Caps.{capOf}
@@ -31,9 +31,8 @@ use Rattle.rate.specs.Question.{frameOf, numbersOk, refusalRead}
 use Rattle.rate.specs.Answer.{answerRead}
 use Rattle.quant_bands.specs.Finalise.{offsetOf, spendAt, takes as takesBit, spendBand, spendPass, finalise}
 use Rattle.quant_bands.specs.Question.{bandsOk, refusalFinalise}
-use Rattle.quant_bands.specs.Answer.{answer as energyAnswer}
 use Rattle.together.specs.Figures.{KnownFigures, answered}
 
 pub known : KnownFigures
-unfolding answered leadingZeros every fill sumOf overPlaces edges edge width vectors step fractions fraction logWidths logWidth capTable capEntry countsOk turns off wid refusal pull pulls place update byteBack fetch fetches readBits freshReader readSym readerOk readRefusal Vn lookupAnswer pulsesAt getPulses capOf skipReserve stereoFits intensityReserve dualReserve budget threshold slope trimUp trimDown trimmed vectorBits lowBits highBits interpolated halve reached floored takes over vector sixtyfourths keeps bitsOf lastBoost skipStart widthUpTo reserveNext topBits asks paid keep dropped flagOf skip withOffset wanted extra spill fineOf prioOf splitOf skipped degrees spread splitBand carried bandOf firstRound dualAsked leftOf finish askIntensity askDual allocFrom alloc decoder frameOf numbersOk refusalRead answerRead bandsOk refusalFinalise finalise spendPass spendBand takesBit spendAt offsetOf energyAnswer add sub mul div ofInt
+unfolding answered leadingZeros every fill sumOf overPlaces edges edge width vectors step fractions fraction logWidths logWidth capTable capEntry countsOk turns off wid refusal pull pulls place update byteBack fetch fetches readBits freshReader readSym readerOk readRefusal Vn answer lentAfter pulsesAt getPulses capOf skipReserve stereoFits intensityReserve dualReserve budget threshold slope trimUp trimDown trimmed vectorBits lowBits highBits interpolated halve reached floored takes over vector sixtyfourths keeps bitsOf lastBoost skipStart widthUpTo reserveNext topBits asks paid keep dropped flagOf skip withOffset wanted extra spill fineOf prioOf splitOf skipped degrees spread splitBand carried bandOf firstRound dualAsked leftOf finish askIntensity askDual allocFrom alloc decoder frameOf numbersOk refusalRead answerRead bandsOk refusalFinalise finalise spendPass spendBand takesBit spendAt offsetOf add sub mul div ofInt
 known = refl

@@ -10,6 +10,7 @@ use Rattle.modes.specs.LogWidths.{logWidths, logWidth}
 use Rattle.entcode.specs.Counts.{countsOk}
 use Rattle.entcode.specs.Range.{turns, off, wid}
 use Rattle.entcode.specs.Refusal.{refusal}
+use Rattle.entcode.specs.Said.{answer, lentAfter}
 use Rattle.entdec.specs.Read.{pull, pulls, place, update, freshReader}
 use Rattle.entdec.specs.Symbols.{readSym}
 use Rattle.entdec.specs.Rule.{readerOk, readRefusal}
@@ -26,17 +27,17 @@ use Rattle.together.specs.Frames.{OneBand, RecordedFrames, Same, alone, 
 
 -- two channels, six bands skipped
 stereo-same : Same stereo
-unfolding stereo leadingZeros every fill sumOf edges edge width vectors step fractions fraction logWidths logWidth countsOk turns off wid refusal pull pulls place update freshReader readSym readerOk readRefusal skipReserve stereoFits intensityReserve dualReserve budget threshold slope trimUp trimDown trimmed vectorBits lowBits highBits interpolated halve reached floored takes over vector sixtyfourths keeps bitsOf lastBoost skipStart widthUpTo reserveNext topBits asks paid keep dropped flagOf skip withOffset wanted extra spill fineOf prioOf splitOf skipped degrees spread splitBand carried bandOf firstRound dualAsked leftOf finish askIntensity askDual allocFrom alloc decoder frameOf numbersOk refusalRead answerRead
+unfolding stereo leadingZeros every fill sumOf edges edge width vectors step fractions fraction logWidths logWidth countsOk turns off wid refusal pull pulls place update freshReader readSym readerOk readRefusal skipReserve stereoFits intensityReserve dualReserve budget threshold slope trimUp trimDown trimmed vectorBits lowBits highBits interpolated halve reached floored takes over vector sixtyfourths keeps bitsOf lastBoost skipStart widthUpTo reserveNext topBits asks paid keep dropped flagOf skip withOffset wanted extra spill fineOf prioOf splitOf skipped degrees spread splitBand carried bandOf firstRound dualAsked leftOf finish askIntensity askDual allocFrom alloc decoder frameOf numbersOk refusalRead answerRead answer lentAfter
 stereo-same = refl
 
 -- one channel, bands of one coefficient
 small-same : Same small
-unfolding small leadingZeros every fill sumOf edges edge width vectors step fractions fraction logWidths logWidth countsOk turns off wid refusal pull pulls place update freshReader readSym readerOk readRefusal skipReserve stereoFits intensityReserve dualReserve budget threshold slope trimUp trimDown trimmed vectorBits lowBits highBits interpolated halve reached floored takes over vector sixtyfourths keeps bitsOf lastBoost skipStart widthUpTo reserveNext topBits asks paid keep dropped flagOf skip withOffset wanted extra spill fineOf prioOf splitOf skipped degrees spread splitBand carried bandOf firstRound dualAsked leftOf finish askIntensity askDual allocFrom alloc decoder frameOf numbersOk refusalRead answerRead
+unfolding small leadingZeros every fill sumOf edges edge width vectors step fractions fraction logWidths logWidth countsOk turns off wid refusal pull pulls place update freshReader readSym readerOk readRefusal skipReserve stereoFits intensityReserve dualReserve budget threshold slope trimUp trimDown trimmed vectorBits lowBits highBits interpolated halve reached floored takes over vector sixtyfourths keeps bitsOf lastBoost skipStart widthUpTo reserveNext topBits asks paid keep dropped flagOf skip withOffset wanted extra spill fineOf prioOf splitOf skipped degrees spread splitBand carried bandOf firstRound dualAsked leftOf finish askIntensity askDual allocFrom alloc decoder frameOf numbersOk refusalRead answerRead answer lentAfter
 small-same = refl
 
 -- one channel with boosts
 boosted-same : Same boosted
-unfolding boosted leadingZeros every fill sumOf edges edge width vectors step fractions fraction logWidths logWidth countsOk turns off wid refusal pull pulls place update freshReader readSym readerOk readRefusal skipReserve stereoFits intensityReserve dualReserve budget threshold slope trimUp trimDown trimmed vectorBits lowBits highBits interpolated halve reached floored takes over vector sixtyfourths keeps bitsOf lastBoost skipStart widthUpTo reserveNext topBits asks paid keep dropped flagOf skip withOffset wanted extra spill fineOf prioOf splitOf skipped degrees spread splitBand carried bandOf firstRound dualAsked leftOf finish askIntensity askDual allocFrom alloc decoder frameOf numbersOk refusalRead answerRead
+unfolding boosted leadingZeros every fill sumOf edges edge width vectors step fractions fraction logWidths logWidth countsOk turns off wid refusal pull pulls place update freshReader readSym readerOk readRefusal skipReserve stereoFits intensityReserve dualReserve budget threshold slope trimUp trimDown trimmed vectorBits lowBits highBits interpolated halve reached floored takes over vector sixtyfourths keeps bitsOf lastBoost skipStart widthUpTo reserveNext topBits asks paid keep dropped flagOf skip withOffset wanted extra spill fineOf prioOf splitOf skipped degrees spread splitBand carried bandOf firstRound dualAsked leftOf finish askIntensity askDual allocFrom alloc decoder frameOf numbersOk refusalRead answerRead answer lentAfter
 boosted-same = refl
 
 -- the three that were recorded
@@ -45,5 +46,5 @@ recorded-frames = (stereo-same, small-same, boosted-same)
 
 -- the branches that they do not run
 pub one-band : OneBand
-unfolding alone leadingZeros every fill sumOf edges edge width vectors step fractions fraction logWidths logWidth countsOk turns off wid refusal pull pulls place update freshReader readSym readerOk readRefusal skipReserve stereoFits intensityReserve dualReserve budget threshold slope trimUp trimDown trimmed vectorBits lowBits highBits interpolated halve reached floored takes over vector sixtyfourths keeps bitsOf lastBoost skipStart widthUpTo reserveNext topBits asks paid keep dropped flagOf skip withOffset wanted extra spill fineOf prioOf splitOf skipped degrees spread splitBand carried bandOf firstRound dualAsked leftOf finish askIntensity askDual allocFrom alloc decoder frameOf numbersOk refusalRead answerRead
+unfolding alone leadingZeros every fill sumOf edges edge width vectors step fractions fraction logWidths logWidth countsOk turns off wid refusal pull pulls place update freshReader readSym readerOk readRefusal skipReserve stereoFits intensityReserve dualReserve budget threshold slope trimUp trimDown trimmed vectorBits lowBits highBits interpolated halve reached floored takes over vector sixtyfourths keeps bitsOf lastBoost skipStart widthUpTo reserveNext topBits asks paid keep dropped flagOf skip withOffset wanted extra spill fineOf prioOf splitOf skipped degrees spread splitBand carried bandOf firstRound dualAsked leftOf finish askIntensity askDual allocFrom alloc decoder frameOf numbersOk refusalRead answerRead answer lentAfter
 one-band = refl

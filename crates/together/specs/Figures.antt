@@ -9,13 +9,13 @@ use lib.Ieee.{Float, fin}
 use lib.ListN.{replicate}
 use Rattle.laws.specs.Lists.{fill}
 use Rattle.laws.specs.Signs.{clip}
+use Rattle.entcode.specs.Said.{Said}
+use Rattle.entcode.specs.Said.Said.{done}
 use Rattle.entcode.specs.Sym.Shape.{bit, raw, uint}
 use Rattle.entdec.specs.declared.Reader.{Reader}
 use Rattle.entdec.specs.Read.{freshReader}
 use Rattle.entdec.specs.Symbols.{readSym}
 use Rattle.cwrs_counts.specs.Count.{Vn}
-use Rattle.rate_cache.specs.declared.Answer.{Answer}
-use Rattle.rate_cache.specs.declared.Answer.the-variants.{Found}
 use Rattle.rate_cache.specs.Lookups.{pulsesAt}
 use Rattle.rate_def.specs.Caps.{capOf}
 use Rattle.rate.specs.declared.AllocRead.the-variants as allocRead
@@ -39,7 +39,7 @@ pub data Asked : Type 0 where
 -- ---- what is answered
 
 pub data Answered : Type 0 where
-  found : Answer → Answered
+  found : Said ℕ → Answered
   counted : ℕ → Answered
   allocated : Read → Answered
   spent : After → Answered
@@ -102,7 +102,7 @@ asked =
 -- 1/512 is 2^-9
 abbrev pub figures : List Answered
 figures =
-    Answered.found (Found 7) ∷ Answered.found (Found 8) ∷ Answered.found (Found 30) ∷ Answered.found (Found 128) ∷
+    Answered.found (done 7) ∷ Answered.found (done 8) ∷ Answered.found (done 30) ∷ Answered.found (done 128) ∷
     Answered.counted 4 ∷ Answered.counted 8 ∷ Answered.counted 18 ∷
     gave 8 7 0 7 0 (fresh 0) ∷ gave 8 8 0 28 0 (fresh 0) ∷ gave 0 0 1 0 0 (fresh 0) ∷
     gave 7 0 1 0 0 (fresh 0) ∷ gave 16 1 1 0 0 (afterIntensity 0) ∷ gave 16 0 0 8 1 (afterDual 128) ∷
