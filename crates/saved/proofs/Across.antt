@@ -34,6 +34,7 @@ next-read r h =
     ap (λ (fs : List (List ℕ)). theNumber (numberOf 4294967295 (getD fs 1 []))) (fields-are r)
     ∙ ap theNumber (decimal-back 4294967295 (r .next) (omega arith) h)
 
+-- so a record that its line restores has it too
 restored-next : (r : Record) → r .next ≤ 4294967295 → restoring (lineOf r) .code ≡ 0 → restoring (lineOf r) .rec .next ≡ r .next
 restored-next r h e =
     let z : refusalLine (lineOf r) ≡ 0 = sym (code-is (refusalLine (lineOf r)) (recordRead (lineOf r))) ∙ e in
@@ -48,6 +49,7 @@ reload-next n r =
     restored-next r (save-opens n r (eqb-true (refusalSave n r) 0 (p .0)) .1) (eqb-true (restoring (lineOf r) .code) 0 (p .1)))
     (λ e. refl)
 
+-- event by event
 counted-over : (es : List Event) (r : Record) → Counted (r .next) (appliedOver r es) (recordOver r es .next)
 unfolding appliedOver recordOver
 counted-over [] r = counted-none (r .next)
@@ -56,8 +58,10 @@ counted-over (frame q ∷ es) r =
 counted-over (reload n ∷ es) r =
     subst (λ (k : ℕ). Counted k (appliedOver (reloaded n r) es) (recordOver (reloaded n r) es .next)) (reload-next n r) (counted-over es (reloaded n r))
 
+-- what was counted is from the next number to the last
 pub counts-across : CountsAcross
 counts-across r es = counted-is (r .next) (appliedOver r es) (recordOver r es .next) (counted-over es r)
 
+-- numbers that count up stand once
 pub once-across : OnceAcross
 once-across r es n = subst (λ (l : List ℕ). times n l ≤ 1) (sym (counts-across r es .1)) (times-most n (r .next) _)

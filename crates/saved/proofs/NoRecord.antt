@@ -14,11 +14,13 @@ use Rattle.stream.proofs.Again.{past-refused}
 use Rattle.saved.specs.Lines.{refusalSave, noRecord, refusalLine, recordRead, answerRestored}
 use Rattle.saved.specs.Back.{RefusedGivesNoRecord, NoRecordNoFrame, NoRecordNothingApplied, NoRecordNoLine, NoRecordNoOrder}
 
+-- by the number of the refusal
 answer-none : (n : ℕ) (r : Record) → (answerRestored n r .code ≡ 0 → ⊥) → answerRestored n r .rec ≡ noRecord
 unfolding answerRestored
 answer-none zero r h = absurd (h refl)
 answer-none (suc n) r h = refl
 
+-- whatever the line
 pub refused-gives-no-record : RefusedGivesNoRecord
 refused-gives-no-record s h = answer-none (refusalLine s) (recordRead s) h
 
@@ -29,9 +31,11 @@ next-past = refl
 
 -- ---- a frame
 
+-- as every record whose next number is outside the domain
 pub no-record-no-frame : NoRecordNoFrame
 no-record-no-frame q = past-refused noRecord q (omega (arith, next-past))
 
+-- call by call
 pub no-record-nothing-applied : NoRecordNothingApplied
 unfolding appliedIn recordAfter
 no-record-nothing-applied [] = (refl, refl)
@@ -45,10 +49,12 @@ no-record-nothing-applied (q ∷ qs) =
 
 -- ---- a line, and the order
 
+-- the test of its next number fails
 pub no-record-no-line : NoRecordNoLine
 unfolding refusalSave noRecord refusal
 no-record-no-line n = refl
 
+-- whatever the other number, the test of both fails
 pub no-record-no-order : NoRecordNoOrder
 unfolding ordered noRecord refusal
 no-record-no-order number = go (leb number 4294967294)

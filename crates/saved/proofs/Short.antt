@@ -54,14 +54,17 @@ abbrev Short : ℕ → Whole → Type 0
 Short n (whole.Is z) = natAbs z ≤ 32768 → n ≤ 6
 Short n whole.Wrong = Unit {0}
 
+-- fewer bytes too
 short-less : (n m : ℕ) (w : Whole) → n ≤ m → Short m w → Short n w
 short-less n m (whole.Is z) l h = λ g. let k = h g in omega arith
 short-less n m whole.Wrong l h = tt
 
+-- 5 figures without a sign
 plus-short : (n : Number) (m : ℕ) → Figures m n → Short m (plus n)
 plus-short (Got v) m f = λ h. let g = f 5 (omega arith) (omega arith) in omega arith
 plus-short Bad m f = tt
 
+-- 5 figures after a minus
 minus-short : (n : Number) (m : ℕ) → Figures m n → Short (suc m) (minus n)
 minus-short (Got v) m f = cond-by (Short (suc m)) (eqb v 0) (λ e. tt) (λ e. signed)
   where
@@ -69,6 +72,7 @@ minus-short (Got v) m f = cond-by (Short (suc m)) (eqb v 0) (λ e. tt) (λ e. si
     signed h = let z = size-value true v in let g = f 5 (omega arith) (omega arith) in omega arith
 minus-short Bad m f = tt
 
+-- by the first byte
 whole-short : (s : List ℕ) → Short (length s) (wholeOf s)
 whole-short s =
     cond-by (Short (length s)) (eqb (getD s 0 0) 45)
@@ -78,6 +82,7 @@ whole-short s =
     (minus-short (numberOf 2147483648 (drop 1 s)) (length (drop 1 s)) (number-figures 2147483648 (drop 1 s))))
     (λ e. plus-short (numberOf 2147483647 s) (length s) (number-figures 2147483647 s))
 
+-- a number outside the range of a Q field is wrong
 kept-short : (w : Whole) (m : ℕ) → Short m w → notWrong (ofWhole (keptIn (negsuc 32767) (pos 32767) w)) ≡ true → m ≤ 8
 kept-short (whole.Is z) m h e = go (inRange (negsuc 32767) (pos 32767) z) refl e
   where
@@ -86,6 +91,7 @@ kept-short (whole.Is z) m h e = go (inRange (negsuc 32767) (pos 32767) z) refl e
     go false p e = absurd (false≢true e)
 kept-short whole.Wrong m h e = absurd (false≢true e)
 
+-- a field of either kind
 energy-short : (l : ℕ) (f : List ℕ) → notWrong (energyOf l f) ≡ true → length f ≤ 8
 energy-short l f e = go (eqb l 69) e
   where
@@ -95,6 +101,7 @@ energy-short l f e = go (eqb l 69) e
 
 -- ---- the line
 
+-- 8 bytes and a tab for each
 energies-short : (l : ℕ) (fs : List (List ℕ)) → every notWrong (map (energyOf l) fs) ≡ true → sizes fs ≤ 9 * length fs
 unfolding every sizes
 energies-short l [] e = omega arith
@@ -104,6 +111,7 @@ energies-short l (f ∷ fs) e =
     let b = energies-short l fs (p .1) in
     omega arith
 
+-- the parts together
 pub well-short : (s : List ℕ) → wellFormed s ≡ true → length s ≤ 390
 unfolding wellFormed
 well-short s h =
@@ -119,6 +127,7 @@ well-short s h =
     let f = sizes-two (fieldsOf s) (omega arith) in
     omega arith
 
+-- so a longer one is refused, whatever its bytes
 pub long-malformed : LongIsMalformed
 unfolding refusalLine refusal answerRestored
 long-malformed s h = split-on (wellFormed s) (λ e. absurd (let l = well-short s e in omega arith)) (λ e. rw e)

@@ -68,11 +68,13 @@ ten true true false l own live told e f g = absurd (false≢true e)
 ten true false c l own live told e f g = absurd (false≢true e)
 ten false b c l own live told e f g = absurd (false≢true e)
 
+-- so such a frame is 10
 below-ten : (r : Record) (q : Call) → wellPut r q ≡ true → every finite (r .energies) ≡ true → q .number < r .next → refusalFrame r q ≡ 10
 unfolding refusalFrame readRefusal
 below-ten r q w f h =
     ten (eqb (q .coder .storage) (length (q .packet))) (readerOk (q .coder)) _ _ _ _ _ w f (below-is (r .next) (q .number) h)
 
+-- and its answer leaves record and reader
 pub below-refused : BelowRefused
 unfolding answer
 below-refused r q w f h = ap (λ (n : ℕ). answer n r q) (below-ten r q w f h)
@@ -90,6 +92,7 @@ own-ten next number told e =
     above : next < number → refusal true true true (orderOf next number) true told ≡ 10 → ⊥
     above g e = let z = rw (le-ltb number next (omega arith), lt-ltb next number g) at e in omega (arith, z)
 
+-- 10 says that the tests before it pass
 ten-is : (a b c l : Bool) (next number : ℕ) (told : Bool) → refusal (a && true) (b && c) l (orderOf next number) true told ≡ 10
     → ((a && b && c) ≡ true) × (l ≡ true) × (number < next)
 ten-is true true true true next number told e = (refl, refl, own-ten next number told e)
@@ -98,10 +101,12 @@ ten-is true true false l next number told e = absurd (unfold refusal in omega (a
 ten-is true false c l next number told e = absurd (unfold refusal in omega (arith, e))
 ten-is false b c l next number told e = absurd (unfold refusal in omega (arith, e))
 
+-- of a frame
 ten-below : (r : Record) (q : Call) → refusalFrame r q ≡ 10 → (wellPut r q ≡ true) × (every finite (r .energies) ≡ true) × (q .number < r .next)
 unfolding refusalFrame readRefusal
 ten-below r q e = ten-is (eqb (q .coder .storage) (length (q .packet))) (readerOk (q .coder)) _ _ (r .next) (q .number) _ e
 
+-- by the answer's code
 pub ten-is-below : TenIsBelow
 ten-is-below r q e = ten-below r q (sym (code-is (refusalFrame r q) r q) ∙ e)
 
@@ -111,6 +116,7 @@ below-usable r q u h w = below-refused r q w (finite-all (r .energies) (u .all))
 
 -- ---- a next number outside its domain
 
+-- the test of the numbers fails, whatever the others are
 outside : (r : Record) (q : Call) → 4294967295 < r .next → numbersOk (r .next) (q .number) (q .c) (q .lm) (q .start) (q .end) (q .intra) ≡ false
 outside r q h =
     split-on (numbersOk (r .next) (q .number) (q .c) (q .lm) (q .start) (q .end) (q .intra))
@@ -124,15 +130,18 @@ one-or-two true true c l own told e = rw e
 one-or-two true false c l own told e = refl
 one-or-two false b c l own told e = refl
 
+-- of a frame
 past-number : (r : Record) (q : Call) → 4294967295 < r .next → refusalFrame r q ≡ cond (eqb (q .coder .storage) (length (q .packet))) 1 2
 unfolding refusalFrame readRefusal
 past-number r q h = one-or-two (eqb (q .coder .storage) (length (q .packet))) (readerOk (q .coder)) _ _ _ _ (outside r q h)
 
+-- either number leaves record and reader
 answer-refused : (t : Bool) (r : Record) (q : Call) → answer (cond t 1 2) r q ≡ refused (cond t 1 2) r (q .coder)
 unfolding answer
 answer-refused true r q = refl
 answer-refused false r q = refl
 
+-- both together
 pub past-refused : PastRefused
 past-refused r q h =
     ap (λ (n : ℕ). answer n r q) (past-number r q h) ∙ answer-refused (eqb (q .coder .storage) (length (q .packet))) r q

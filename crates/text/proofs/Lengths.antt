@@ -24,6 +24,7 @@ unfoldable pub sizes : List (List ℕ) → ℕ
 sizes [] = 0
 sizes (f ∷ fs) = suc (length f) + sizes fs
 
+-- one byte more in the first field
 glue-sizes : (b : ℕ) (fs : List (List ℕ)) → 0 < length fs → sizes (glue b fs) ≡ suc (sizes fs)
 unfolding glue sizes
 glue-sizes b [] h = absurd (omega arith)
@@ -75,6 +76,7 @@ zero-digit c e =
         (λ m. let z = rw (le-ltb c 48 (omega arith), le-ltb c 58 b, le-ltb c 97 l, le-ltb c 103 (omega arith)) at e in omega (arith, z)))
         (λ l. let z = rw (le-ltb c 48 (omega arith), le-ltb c 58 b, lt-ltb c 97 (omega arith)) at e in omega (arith, z))
 
+-- the first of several figures is no zero, so that the number is at least 1 with a zero for each of the others
 figures : (s : List ℕ) → noNeedlessZero s ≡ true → allDigits 10 s ≡ true → (k : ℕ) → 0 < k → valueAfter 10 0 s < 10 ^ k → length s ≤ k
 unfolding noNeedlessZero allDigits valueAfter
 figures [] p q k h g = omega arith
@@ -94,6 +96,7 @@ abbrev pub Figures : ℕ → Number → Type 0
 Figures n (Got v) = (k : ℕ) → 0 < k → v < 10 ^ k → n ≤ k
 Figures n Bad = Unit {0}
 
+-- by the tests of a decimal
 pub number-figures : (most : ℕ) (s : List ℕ) → Figures (length s) (numberOf most s)
 number-figures most s = go (noNeedlessZero s) (allDigits 10 s) (leb (valueAfter 10 0 s) most) refl refl
   where
