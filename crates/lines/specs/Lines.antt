@@ -1,5 +1,5 @@
--- A stream of bytes cut into lines, block by block. Of a line the first 2,601 bytes are kept: one of more than 2,600 is then still seen to
--- be too long, whatever its length.
+-- A stream of bytes cut into lines, block by block. Of a line at most the first `most` bytes are kept. With one more than a tool answers, a line
+-- that is too long is still seen to be so, whatever its length.
 use Prim.Native.Nat.{ℕ, _≤_, _<_}
 use mathlib.Core.Path.{_≡_}
 use mathlib.Core.Bool.{cond}
@@ -23,32 +23,32 @@ unfoldable pub linesOf : List ℕ → List (List ℕ)
 linesOf s = noEmptyLast (partsOf 10 s)
 
 -- what is kept of a line
-abbrev pub clip : List ℕ → List ℕ
-clip l = take 2601 l
+abbrev pub clip : ℕ → List ℕ → List ℕ
+clip most l = take most l
 
 -- ---- the same, byte by byte
 
 -- a line with a byte more
-unfoldable pub pushOf : List ℕ → ℕ → List ℕ
-pushOf k b = cond (ltb (length k) 2601) (k ++ b ∷ []) k
+unfoldable pub pushOf : ℕ → List ℕ → ℕ → List ℕ
+pushOf most k b = cond (ltb (length k) most) (k ++ b ∷ []) k
 
 -- what is kept after a byte: nothing after a line feed
-abbrev pub next : List ℕ → ℕ → List ℕ
-next k b = cond (eqb b 10) [] (pushOf k b)
+abbrev pub next : ℕ → List ℕ → ℕ → List ℕ
+next most k b = cond (eqb b 10) [] (pushOf most k b)
 
 -- what is kept after the bytes s
-unfoldable pub keeps : List ℕ → List ℕ → List ℕ
-keeps k [] = k
-keeps k (b ∷ s) = keeps (next k b) s
+unfoldable pub keeps : ℕ → List ℕ → List ℕ → List ℕ
+keeps most k [] = k
+keeps most k (b ∷ s) = keeps most (next most k b) s
 
 -- a line feed ends a line
 abbrev pub ended : List ℕ → ℕ → List (List ℕ) → List (List ℕ)
 ended k b ls = cond (eqb b 10) (k ∷ ls) ls
 
 -- the lines that end in s
-unfoldable pub ends : List ℕ → List ℕ → List (List ℕ)
-ends k [] = []
-ends k (b ∷ s) = ended k b (ends (next k b) s)
+unfoldable pub ends : ℕ → List ℕ → List ℕ → List (List ℕ)
+ends most k [] = []
+ends most k (b ∷ s) = ended k b (ends most (next most k b) s)
 
 -- the line that the stream's end ends
 abbrev pub lastOf : List ℕ → List (List ℕ)
@@ -57,9 +57,9 @@ lastOf k = noEmptyLast (k ∷ [])
 -- ---- a block
 
 -- the lines that end in each of the blocks, one block after the other
-unfoldable pub overBlocks : List ℕ → List (List ℕ) → List (List ℕ)
-overBlocks k [] = []
-overBlocks k (s ∷ ss) = ends k s ++ overBlocks (keeps k s) ss
+unfoldable pub overBlocks : ℕ → List ℕ → List (List ℕ) → List (List ℕ)
+overBlocks most k [] = []
+overBlocks most k (s ∷ ss) = ends most k s ++ overBlocks most (keeps most k s) ss
 
 -- the blocks as one stream
 unfoldable pub joined : List (List ℕ) → List ℕ
@@ -67,9 +67,9 @@ joined [] = []
 joined (s ∷ ss) = s ++ joined ss
 
 -- the bytes of a block from `at` on were taken up to a line feed or the end, with k kept before and last after
-pub record Filled (block : List ℕ) (at : ℕ) (k : List ℕ) (r : Fed) (last : List ℕ) : Type 0 where
-  pub lines : ends k (drop at block) ≡ cond (r .done) (last ∷ []) [] ++ ends (cond (r .done) [] last) (drop (r .at) block)
-  pub kept : keeps k (drop at block) ≡ keeps (cond (r .done) [] last) (drop (r .at) block)
-  pub few : r .n ≤ 2601
+pub record Filled (most : ℕ) (block : List ℕ) (at : ℕ) (k : List ℕ) (r : Fed) (last : List ℕ) : Type 0 where
+  pub lines : ends most k (drop at block) ≡ cond (r .done) (last ∷ []) [] ++ ends most (cond (r .done) [] last) (drop (r .at) block)
+  pub kept : keeps most k (drop at block) ≡ keeps most (cond (r .done) [] last) (drop (r .at) block)
+  pub few : r .n ≤ most
   pub inside : r .at ≤ length block
   pub on : at < length block → at < r .at

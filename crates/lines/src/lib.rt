@@ -11,22 +11,22 @@ pub struct Fed {
     pub done: bool,
 }
 
-// One byte more of the line whose first n bytes stand in `buf`.
+// One byte more of the line whose first n bytes stand in `buf`, as long as there is room.
 fn push(buf: &mut [u8], n: usize, b: u8) -> usize
-    requires { ⌜ (length (now buf) ≡ 2601) × (n ≤ 2601) ⌝ }
-    ensures { λ r. ⌜ (take r (now (buf .exit)) ≡ pushOf (take n (now (buf .entry))) b) × (r ≤ 2601) ⌝ }
+    requires { ⌜ n ≤ length (now buf) ⌝ }
+    ensures { λ r. ⌜ (take r (now (buf .exit)) ≡ pushOf (length (now (buf .entry))) (take n (now (buf .entry))) b) × (r ≤ length (now (buf .entry))) ⌝ }
 {
-    if n < 2601 {
+    if n < buf.len() {
         buf[n] = b;
         return n + 1;
     }
     n
 }
 
-// The block's bytes from `at` on go to the line, up to its end or the block's.
+// The block's bytes from `at` on go to the line, up to its end or the block's. Of the line as many bytes are kept as `buf` has.
 pub fn fill(block: &[u8], at: usize, buf: &mut [u8], n: usize) -> Fed
-    requires { ⌜ (length (now buf) ≡ 2601) × (n ≤ 2601) × (at ≤ length (now block)) ⌝ }
-    ensures { λ r. ⌜ Filled (now (block .entry)) at (take n (now (buf .entry))) r (take (r .n) (now (buf .exit))) ⌝ }
+    requires { ⌜ (n ≤ length (now buf)) × (at ≤ length (now block)) ⌝ }
+    ensures { λ r. ⌜ Filled (length (now (buf .entry))) (now (block .entry)) at (take n (now (buf .entry))) r (take (r .n) (now (buf .exit))) ⌝ }
 {
     let mut i = at;
     let mut k = n;

@@ -9,13 +9,13 @@ use Rattle.lines.proofs.fill.Statement.{statement}
 use Rattle.lines.proofs.fill.Tie as tie
 
 abbrev Inv-loop : tie.InvT-loop
-Inv-loop block at buf₀ n i₀ k₀ buf i k = (length buf ≡ 2601) × (k ≤ 2601) × (at ≤ i) × (i ≤ length block) × Same (take k buf) (drop i block) (take n buf₀) (drop at block)
+Inv-loop block at buf₀ n i₀ k₀ buf i k = (length buf ≡ length buf₀) × (k ≤ length buf₀) × (at ≤ i) × (i ≤ length block) × Same (length buf₀) (take k buf) (drop i block) (take n buf₀) (drop at block)
 
 abbrev μ-loop : tie.MeasureT-loop
 μ-loop block at buf₀ n i₀ k₀ buf i k = length block - i
 
 loop-holds : tie.Need-loop-holds Inv-loop μ-loop
-loop-holds c = (omega arith, omega arith, omega arith, omega arith, record { lines = refl; kept = refl })
+loop-holds c = (refl, omega arith, omega arith, omega arith, record { lines = refl; kept = refl })
 
 shared-slice-read-b : tie.Need-shared-slice-read-b Inv-loop μ-loop
 shared-slice-read-b c = search needs
@@ -30,7 +30,7 @@ returns : tie.Need-returns Inv-loop μ-loop
 returns c =
     let a = c .before .before .before .before .before .before .args in
     let l = c .before .before .before .loop in
-    feed (take (l .k) (l .buf)) (take (a .n) (a .buf .now)) (a .block .now) (l .i) (a .at) (l .k) (c .before .before .loop-test .taken) (c .if1 .taken) (l .inv .2) (l .inv .1) (l .inv .4)
+    feed (length (a .buf .now)) (take (l .k) (l .buf)) (take (a .n) (a .buf .now)) (a .block .now) (l .i) (a .at) (l .k) (c .before .before .loop-test .taken) (c .if1 .taken) (l .inv .2) (l .inv .1) (l .inv .4)
 
 push-requires : tie.Need-push-requires Inv-loop μ-loop
 push-requires c κs = search needs
@@ -48,10 +48,10 @@ loop-again c =
     let p = c .before .before .push in
     let s = a .block .now in (
       p .kept .0 ∙ l .inv .0,
-      p .ensures .1,
+      omega (arith, p .ensures .1, l .inv .0),
       omega arith,
       omega arith,
-      rw (p .ensures .0) (on (take (l .k) (l .buf)) (take (a .n) (a .buf .now)) s (l .i) (a .at) (c .before .before .before .before .before .before .loop-test .taken) (c .before .before .before .before .if1 .left) (l .inv .4)),
+      on (length (a .buf .now)) (take (l .k) (l .buf)) (take (a .n) (a .buf .now)) s (l .i) (a .at) (p .ensures .0) (l .inv .0) (c .before .before .before .before .before .before .loop-test .taken) (c .before .before .before .before .if1 .left) (l .inv .4),
     )
 
 same-length-2 : tie.Need-same-length-2 Inv-loop μ-loop
@@ -61,7 +61,7 @@ returns-2 : tie.Need-returns-2 Inv-loop μ-loop
 returns-2 c =
     let a = c .before .before .before .before .args in
     let l = c .before .loop in
-    over (take (l .k) (l .buf)) (take (a .n) (a .buf .now)) (a .block .now) (l .i) (a .at) (l .k) (l .inv .3) (c .loop-test .left) (l .inv .1) (l .inv .4)
+    over (length (a .buf .now)) (take (l .k) (l .buf)) (take (a .n) (a .buf .now)) (a .block .now) (l .i) (a .at) (l .k) (l .inv .3) (c .loop-test .left) (l .inv .1) (l .inv .4)
 
 pub fill-spec : {M : Type 1} → statement M
 fill-spec =

@@ -1,0 +1,2 @@
+-- What was read and written, as the records have it.
+pub mod Moved
