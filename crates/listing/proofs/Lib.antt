@@ -2,4 +2,5 @@ pub mod Rows
 pub mod Asked
 pub mod Rule
 pub mod Replies
+pub mod Decisions
 pub mod Figures
