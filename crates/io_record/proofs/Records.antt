@@ -11,9 +11,11 @@ use lib.Seq.{take-all, take-suc-set}
 use Rattle.laws.proofs.Lists.{take-next}
 use Rattle.io_record.specs.Moved.{Noted, Counted}
 
+-- before the first byte is copied
 pub none-yet : (log bytes : List ℕ) (n : ℕ) → take (n + 0) log ≡ take n log ++ take 0 bytes
 none-yet log bytes n = ap (λ (k : ℕ). take k log) (add-zero n) ∙ sym (append-nil (take n log))
 
+-- a byte is copied
 pub one-more : (log log₀ bytes : List ℕ) (n i : ℕ) → n + i < length log → i < length bytes → take (n + i) log ≡ take n log₀ ++ take i bytes
     → take (n + (i + 1)) (set log (n + i) (getD bytes i 0)) ≡ take n log₀ ++ take (i + 1) bytes
 one-more log log₀ bytes n i h g e =
@@ -22,12 +24,14 @@ one-more log log₀ bytes n i h g e =
     ap (λ (k : ℕ). take k (set log (n + i) (getD bytes i 0))) a ∙ b ∙ ap (λ (l : List ℕ). l ++ (getD bytes i 0 ∷ [])) e
     ∙ append-assoc (take n log₀) (take i bytes) (getD bytes i 0 ∷ []) ∙ ap (λ (l : List ℕ). take n log₀ ++ l) (sym (take-next bytes i 0 g))
 
+-- after the last byte
 pub all-there : (log log₀ bytes : List ℕ) (n i : ℕ) → length bytes ≤ i → i ≤ length bytes → take (n + i) log ≡ take n log₀ ++ take i bytes
     → take (n + length bytes) log ≡ take n log₀ ++ bytes
 all-there log log₀ bytes n i h g e =
     let a : length bytes ≡ i = omega arith in
     ap (λ (k : ℕ). take (n + k) log) a ∙ e ∙ ap (λ (l : List ℕ). take n log₀ ++ l) (take-all i bytes h)
 
+-- what does not fit leaves the record whole no more
 pub left-out : (n : ℕ) (w : Bool) (log s : List ℕ) → n ≤ length log → (w ≡ true → n + length s ≤ length log → ⊥) → Noted n w log s n false log
 left-out n w log s h g =
     record {
@@ -37,6 +41,7 @@ left-out n w log s h g =
       room = λ (e : w ≡ true) (l : n + length s ≤ length log). absurd (g e l);
     }
 
+-- a read that failed moved nothing
 pub nothing-new : (n : ℕ) (w : Bool) (log block : List ℕ) → n ≤ length log → Noted n w log (take 0 block) n w log
 nothing-new n w log block h =
     record {
@@ -46,6 +51,7 @@ nothing-new n w log block h =
       room = λ (e : w ≡ true) (l : n + 0 ≤ length log). e;
     }
 
+-- neither failed
 pub first-fine : (a b : Bool) → (a || b) ≡ false → a ≡ false
 first-fine false b e = refl
 first-fine true b e = e

@@ -39,11 +39,13 @@ pub struct Got {
     pub seen: Seen,
 }
 
+// The bytes in a record after a call, and whether they are all that was moved.
 pub struct Note {
     pub n: usize,
     pub whole: bool,
 }
 
+// Standard input, before its first byte.
 pub fn stdin() -> Seen
     ensures { λ r. ⌜ Fresh r ⌝ }
 {
@@ -72,6 +74,7 @@ pub fn open_file(path: &[u8]) -> Seen
     }
 }
 
+// Standard output, before its first byte.
 pub fn stdout() -> Sent
     ensures { λ r. ⌜ New r ⌝ }
 {
@@ -83,13 +86,14 @@ pub fn stdout() -> Sent
     }
 }
 
-// Whether the input's end was seen, and whether a read failed.
+// Whether the input's end was seen.
 pub fn ended(s: Seen) -> bool
     ensures { λ r. ⌜ r ≡ s .ended ⌝ }
 {
     s.ended
 }
 
+// Whether a read failed.
 pub fn read_failed(s: Seen) -> bool
     ensures { λ r. ⌜ r ≡ s .failed ⌝ }
 {
@@ -114,18 +118,21 @@ pub struct Turns {
     left: u64,
 }
 
+// As many turns as a count has.
 pub fn all_turns() -> Turns {
     Turns {
         left: 18446744073709551615,
     }
 }
 
+// Whether a turn is left.
 pub fn any_turn(t: Turns) -> bool
     ensures { λ r. ⌜ r ≡ ltb 0 (t .left) ⌝ }
 {
     0 < t.left
 }
 
+// After a turn.
 pub fn one_less(t: Turns) -> Turns
     requires { ⌜ 0 < t .left ⌝ }
     ensures { λ r. ⌜ r .left < t .left ⌝ }
@@ -146,6 +153,7 @@ pub fn given_up(t: Turns, s: Sent) -> Sent
     }
 }
 
+// The bytes go into the record from place n on.
 fn copied(log: &mut [u8], n: usize, bytes: &[u8])
     requires { ⌜ n + length (now bytes) ≤ length (now log) ⌝ }
     ensures { λ _. ⌜ take (n + length (now (bytes .entry))) (now (log .exit)) ≡ take n (now (log .entry)) ++ now (bytes .entry) ⌝ }
@@ -157,6 +165,7 @@ fn copied(log: &mut [u8], n: usize, bytes: &[u8])
     }
 }
 
+// The bytes go into the record where it is whole and has room for them; where it has none, it is whole no more.
 fn noted(log: &mut [u8], n: usize, whole: bool, bytes: &[u8]) -> Note
     requires { ⌜ n ≤ length (now log) ⌝ }
     ensures { λ r. ⌜ Noted n whole (now (log .entry)) (now (bytes .entry)) (r .n) (r .whole) (now (log .exit)) ⌝ }

@@ -16,16 +16,19 @@ use Rattle.lines.proofs.Blocks.{filled-more}
 use Rattle.line_tool.specs.declared.Reader.{Reader}
 use Rattle.line_tool.specs.Reading.{coming, lineOf, partOf, restOf, Held, Told, Went, Cut}
 
+-- what is kept of a line that has not ended is no more than what is kept
 pub begun-few : (r : Bool) {n size : ℕ} → n ≤ size → cond r 0 n ≤ size
 begun-few true h = omega arith
 begun-few false h = h
 
 -- ---- within a block
 
+-- the same bytes, cut by a length
 part-is : (d : Bool) (n : ℕ) (kept : List ℕ) → cond d [] (take n kept) ≡ take (cond d 0 n) kept
 part-is true n kept = refl
 part-is false n kept = refl
 
+-- the lines to come are the line that was cut off, if one was, and those after it
 pub cut-lines : (size : ℕ) (p : Reader) (kept block : List ℕ) {f : Fed} {k : ℕ} (kept′ : List ℕ) → k ≡ cond (p .ready) 0 (p .kept)
     → Filled size block (p .at) (take k kept) f (take (f .n) kept′) → Cut size p kept block (record { at = f .at; n = p .n; kept = f .n; ready = f .done; over = p .over; seen = p .seen }) kept′
 unfolding coming
@@ -46,9 +49,11 @@ cut-lines size p kept block {f} {k} kept′ e g =
           ∙ ap (λ (l : List ℕ). x ++ (ends size l d ++ lastOf (keeps size l d))) (part-is (f .done) (f .n) kept′);
     }
 
+-- an input that is not over has not ended
 going : {size : ℕ} {p : Reader} {block log : ℕ} → Held size p block log → p .over ≡ false → p .seen .failed ≡ false → p .seen .ended ≡ false
 going h o f = sym (h .over-is f) ∙ o
 
+-- a step within the block reads nothing
 pub went-cut : (size : ℕ) (p : Reader) (kept block log : List ℕ) {r : Reader} (kept′ : List ℕ) {calls : List ℕ} → calls ≡ p .seen .calls ∷ [] → Held size p (length block) (length log) → p .over ≡ false
     → Cut size p kept (take (p .n) block) r kept′ → Went size p kept block log r kept′ block log calls
 unfolding restOf
@@ -82,18 +87,21 @@ went-cut size p kept block log {r} kept′ {calls} n h o c =
 
 -- ---- the next block, or the end
 
+-- the line that the input's end ends, where it has a byte
 last-is : (size k : ℕ) (kept : List ℕ) → k ≤ length kept → coming size (take k kept) [] ≡ cond (ltb 0 k) (take k kept ∷ []) []
 unfolding coming ends keeps noEmptyLast
 last-is size zero kept h = refl
 last-is size (suc k) [] h = absurd (omega arith)
 last-is size (suc k) (b ∷ kept) h = rw (lt-ltb 0 (suc k) (omega arith))
 
+-- the lines to come are those of the new block, or the last one
 refill-lines : (size : ℕ) (e : Bool) (n k : ℕ) (kept block t : List ℕ) → k ≤ length kept → (e ≡ true → n ≡ 0) → (e ≡ true → t ≡ [])
     → coming size (take k kept) (take n block ++ t)
     ≡ cond (e && ltb 0 k) (take k kept ∷ []) [] ++ cond e [] (coming size (take (cond (e && ltb 0 k) 0 k) kept) (drop 0 (take n block) ++ t))
 refill-lines size true n k kept block t h a b = rw (a refl, b refl) (last-is size k kept h ∙ sym (append-nil (cond (ltb 0 k) (take k kept ∷ []) [])))
 refill-lines size false n k kept block t h a b = refl
 
+-- where no read failed, over is ended
 or-off : (a b : Bool) → b ≡ false → (a || b) ≡ a
 or-off true b e = refl
 or-off false b e = e

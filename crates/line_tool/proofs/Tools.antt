@@ -19,6 +19,7 @@ use Rattle.line_tool.specs.Tool.{Tool, tale, tellsOf, Ran, Owed, Runs, R
 
 -- ---- the text
 
+-- the text stays in the buffer
 pub stays : (p : Pen) (out log : List ℕ) (most : ℕ) (dry : Bool) {calls : List ℕ} → p .sent .n ≤ length log → calls ≡ p .sent .calls ∷ [] → ((p .on && not dry) && leb (p .w) most) ≡ true → Flushed p out log dry most p log calls
 stays p out log most dry {calls} h n e =
     let a = and-eq-true-iff (p .on && not dry) (leb (p .w) most) .0 e in
@@ -36,13 +37,16 @@ stays p out log most dry {calls} h n e =
       text = λ f. refl;
     }
 
+-- the first of both
 and-left : (a b : Bool) → (a && b) ≡ true → a ≡ true
 and-left a b e = and-eq-true-iff a b .0 e .0
 
+-- where no write failed, to go on is as it was
 and-on : (a b : Bool) → b ≡ false → (a && not b) ≡ a
 and-on true b e = ap not e
 and-on false b e = refl
 
+-- the text is handed over
 pub hands-over : (p : Pen) (out log : List ℕ) (dry : Bool) (most : ℕ) {o : Sent} {l : Bool} (log′ calls : List ℕ) → Wrote (p .sent) log (take (p .w) out) o log′ calls → l ≡ o .failed
     → Flushed p out log dry most (record { w = 0; on = p .on && not l; sent = o }) log′ calls
 hands-over p out log dry most {o} {l} log′ calls q e =
@@ -65,20 +69,24 @@ hands-over p out log dry most {o} {l} log′ calls q e =
 abbrev pub lastOf : {S : Type 0} → Tool S → S → Bool → List ℕ
 lastOf T s over = cond over (T .last s) []
 
+-- on is not over
 on-off : (o : Bool) → not o ≡ true → o ≡ false
 on-off true e = absurd (false≢true e)
 on-off false e = refl
 
 module _ {S : Type 0} (T : Tool S) (s : S) where
+  -- the text so far and the last text, where the input is over; else what is to come
   ends-here : (o : Bool) (A B : List ℕ) (ls : List (List ℕ)) → (o ≡ true → ls ≡ []) → A ≡ B ++ lastOf T s o → A ++ cond (not o) (tale T s ls) [] ≡ B ++ tale T s ls
   unfolding tale
   ends-here true A B ls h e = rw (h refl) (append-nil A ∙ e)
   ends-here false A B ls h e = ap (λ (x : List ℕ). x ++ tale T s ls) (e ∙ append-nil B)
 
+  -- a line that is taken
   one-line : (l : List ℕ) (ls : List (List ℕ)) → T .takes s ≡ true → tale T s (l ∷ ls) ≡ T .text s l ++ tale T (T .next s l) ls
   unfolding tale
   one-line l ls e = rw e
 
+  -- a line that is not taken
   no-line : (l : List ℕ) (ls : List (List ℕ)) → T .takes s ≡ false → tale T s (l ∷ ls) ≡ T .stop s
   unfolding tale
   no-line l ls e = rw e
@@ -129,10 +137,12 @@ module _ {S : Type 0} (T : Tool S) (s : S) (r : Reader) (p : Pen) (kept out : Li
 
 -- ---- a turn
 
+-- nothing is to come after the input's end
 over-none : (size : ℕ) (r : Reader) (kept block t : List ℕ) → r .seen .ended ≡ true → restOf size r kept block t ≡ []
 unfolding restOf
 over-none size r kept block t e = rw e
 
+-- before the first byte all is to come
 first-rest : (size : ℕ) (r : Reader) (kept block t : List ℕ) → r .seen .ended ≡ false → (r .at ≡ 0) × (r .n ≡ 0) × (r .kept ≡ 0) × (r .ready ≡ false)
     → restOf size r kept block t ≡ coming size [] t
 unfolding restOf
@@ -267,9 +277,11 @@ module _ {S : Type 0} (T : Tool S) (s₀ : S) where
 
 -- ---- the turns
 
+-- a turn that was begun
 pub has-turn : (on any : Bool) (n : ℕ) → any ≡ ltb 0 n → (on && any) ≡ true → (on ≡ true) × (0 < n)
 has-turn on any n b c = let p = and-eq-true-iff on any .0 c in (p .0, ltb-true 0 n (sym b ∙ p .1))
 
+-- a loop that ended with more to do has no turn left
 pub no-turn : (on any : Bool) (n : ℕ) → on ≡ true → any ≡ ltb 0 n → (on && any) ≡ false → n ≡ 0
 no-turn on any n a b c =
     let f : any ≡ false = sym (ap (λ (x : Bool). x && any) a) ∙ c in

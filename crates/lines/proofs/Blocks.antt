@@ -17,6 +17,7 @@ use Rattle.lines.specs.Lines.{noEmptyLast, linesOf, clip, pushOf, next, 
 
 -- ---- what does not depend on how much is kept
 
+-- lines after those that a line feed ends
 ended-join : (k : List ℕ) (b : ℕ) (ls ms : List (List ℕ)) → ended k b (ls ++ ms) ≡ ended k b ls ++ ms
 ended-join k b ls ms = go (eqb b 10)
   where
@@ -41,6 +42,7 @@ before-more k b (f ∷ fs) = ap (λ (q : List ℕ). q ∷ fs) (append-assoc k (b
 before-part : (k : List ℕ) (fs : List (List ℕ)) → before k ([] ∷ fs) ≡ k ∷ fs
 before-part k fs = ap (λ (q : List ℕ). q ∷ fs) (append-nil k)
 
+-- the last line, after the others
 last-join : (ls : List (List ℕ)) (k : List ℕ) → ls ++ lastOf k ≡ noEmptyLast (ls ++ k ∷ [])
 unfolding noEmptyLast
 last-join [] k = refl
@@ -69,16 +71,19 @@ pub record Same (most : ℕ) (k s m t : List ℕ) : Type 0 where
 module _ (most : ℕ) where
   -- ---- blocks one after the other
 
+  -- what is kept after two parts
   keeps-join : (k s t : List ℕ) → keeps most k (s ++ t) ≡ keeps most (keeps most k s) t
   unfolding keeps
   keeps-join k [] t = refl
   keeps-join k (b ∷ s) t = keeps-join (next most k b) s t
 
+  -- the lines that end in two parts
   ends-join : (k s t : List ℕ) → ends most k (s ++ t) ≡ ends most k s ++ ends most (keeps most k s) t
   unfolding ends keeps
   ends-join k [] t = refl
   ends-join k (b ∷ s) t = ap (ended k b) (ends-join (next most k b) s t) ∙ ended-join k b (ends most (next most k b) s) (ends most (keeps most (next most k b) s) t)
 
+  -- no line ends in nothing
   ends-none : (k : List ℕ) → [] ≡ ends most k []
   unfolding ends
   ends-none k = refl
@@ -145,6 +150,7 @@ module _ (most : ℕ) where
 
   -- ---- the lines of a whole stream
 
+  -- a byte more of what is kept is what is kept of a byte more
   push-clip : (k : List ℕ) (b : ℕ) → pushOf most (clip most k) b ≡ clip most (k ++ b ∷ [])
   unfolding pushOf
   push-clip k b = go (ltb (length k) most) refl
@@ -177,6 +183,7 @@ module _ (most : ℕ) where
           ∙ sym (ap (map (clip most)) (before-part k (partsOf 10 s)))
       go false p q = ap (λ (r : List ℕ). ends most r s ++ keeps most r s ∷ []) (push-clip k b) ∙ q ∙ ap (map (clip most)) (before-more k b (partsOf 10 s))
 
+  -- cutting lines leaves none out
   clip-last : 0 < most → (ls : List (List ℕ)) → noEmptyLast (map (clip most) ls) ≡ map (clip most) (noEmptyLast ls)
   unfolding noEmptyLast
   clip-last h [] = refl

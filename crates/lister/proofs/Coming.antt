@@ -47,6 +47,7 @@ numbered B l n e = e ∙ ap (λ (k : ℕ). B ++ listingOf k l) (add-one n)
 
 -- ---- the whole
 
+-- what is cut off a line does not change its answer
 clip-tale : (n : ℕ) (ls : List (List ℕ)) → tale lister n (map (clip 2601) ls) ≡ answers n ls
 unfolding tale answers
 clip-tale n [] = refl

@@ -22,6 +22,7 @@ pub struct State {
     pub pen: Pen,
 }
 
+// The lines that were read, and the text, after a reply.
 pub struct Said {
     pub number: u32,
     pub pen: Pen,

@@ -3,4 +3,5 @@ pub mod Asked
 pub mod Rule
 pub mod Replies
 pub mod Said
+pub mod Decisions
 pub mod Figures

@@ -1,4 +1,4 @@
--- Laws of the answer: what is refused, and what a line's parts add up to. Assumes nothing.
+-- Laws of the answer's parts: the allocation, the packet and the call. Assumes nothing.
 use Prim.Native.Nat.{ℕ, _+_, _/_, _%_, _≤_, _<_}
 use mathlib.Core.Path.{_≡_, refl, sym, ap, _∙_}
 use mathlib.Core.Bool.{Bool, true, false, cond, _&&_, and-eq-true-iff}
@@ -17,7 +17,7 @@ use Rattle.text.specs.Digits.{allDigits}
 use Rattle.text.specs.Numbers.{bytesOf, hexBytes}
 use Rattle.text.specs.Written.{Put}
 use Rattle.entcode.specs.Refusal.{refusal}
-use Rattle.entcode.specs.Said.{Said, answer, lentAfter}
+use Rattle.entcode.specs.Said.{answer, lentAfter}
 use Rattle.entcode.specs.Said.Said.{done, refused}
 use Rattle.entdec.specs.declared.Reader.{Reader}
 use Rattle.entdec.specs.declared.Started.{Started}
@@ -25,31 +25,22 @@ use Rattle.entdec.specs.Read.{pull, pulls, freshReader}
 use Rattle.entdec.specs.Rule.{readerOk, readRefusal}
 use Rattle.entdec.specs.Answer.{saidStart, startOf}
 use Rattle.rate.specs.declared.Numbers.{Numbers}
-use Rattle.rate.specs.declared.ReadAllocation.{ReadAllocation}
-use Rattle.rate.specs.Question.{Lists, lists, numbers, lengthsOk, numbersOk, refusalRead}
+use Rattle.rate.specs.Question.{lists, numbers, lengthsOk, numbersOk, refusalRead}
 use Rattle.rate.specs.Answer.{Read, afterRead, reading}
 use Rattle.rate.proofs.Accepts.{refused-read}
-use Rattle.listing.specs.declared.Parsed.{Parsed}
-use Rattle.listing.specs.declared.Parsed.the-variants.{Asks, Malformed}
 use Rattle.listing.specs.declared.Packet.{Packet}
 use Rattle.listing.specs.declared.Packet.the-variants.{Bytes, Bad}
 use Rattle.listing.specs.declared.Listed.the-variants.{Wrote, Refused}
-use Rattle.listing.specs.Request.{packetHex, packetOf, numbersOf, framed, requestOf, packetSize, packetInto}
+use Rattle.listing.specs.Request.{packetHex, packetOf, framed, requestOf, packetSize, packetInto}
 use Rattle.rate_def.specs.Caps.{capOf}
 use Rattle.listing.specs.Caps.{zeros, capsOf}
 use Rattle.listing.specs.Lines.{refusedLine}
 use Rattle.listing.proofs.Asked.{framed-long}
-use Rattle.listing.specs.Answer.{allocated, saidLines, answerOf, asked, listingOf, told, listing}
+use Rattle.listing.specs.Answer.{allocated, listingOf, told, listing}
 use Rattle.entdec.specs.declared.Started.the-variants as started
 use Rattle.rate.specs.declared.AllocRead.the-variants as alloc
 
 -- ---- the allocation
-
-pub said-is : (number : ℕ) (q : Numbers) (s : List ℕ) (d : Reader) {a : Said ReadAllocation} {l : Lists} → _≡_ {A = Read} (record { said = a; lent = l }) (allocated q s d)
-    → saidLines number (clip (q .start)) (clip (q .end)) a l ≡ answerOf number q s d
-unfolding answerOf
-said-is number q s d e =
-    ap (λ (x : Read). saidLines number (clip (q .start)) (clip (q .end)) (x .said) (x .lent)) e
 
 pub allocated-is : (c lm start end trim total : ℤ) (s : List ℕ) (d : Reader) {caps : List ℤ} {x : Read} → caps ≡ capsOf (clip c) (clip lm)
     → x ≡ reading (numbers c lm start end trim total) zeros caps s d (lists zeros zeros zeros) → x ≡ allocated (numbers c lm start end trim total) s d
@@ -90,13 +81,12 @@ refused-one q s h =
     (all-sized zeros (capsOf (clip (q .c)) (clip (q .lm))) zeros-length (caps-length (clip (q .c)) (clip (q .lm)))) h
 
 -- numbers outside their domain are refused as 1
-pub unknown : (number : ℕ) (q : Numbers) (s : List ℕ) → numbersOk q ≡ false → refusedLine number 1 ≡ answerOf number q s (freshReader s)
+pub unknown-read : (q : Numbers) (s : List ℕ) → numbersOk q ≡ false → afterRead (alloc.Refused 1) (lists zeros zeros zeros) ≡ allocated q s (freshReader s)
 unfolding allocated
-unknown number q s h =
-    said-is number q s (freshReader s) {l = lists zeros zeros zeros}
-    (ap (λ (n : ℕ). afterRead (alloc.Refused n) (lists zeros zeros zeros)) (sym (refused-one q s h))
+unknown-read q s h =
+    ap (λ (n : ℕ). afterRead (alloc.Refused n) (lists zeros zeros zeros)) (sym (refused-one q s h))
     ∙ refused-read (refusalRead q zeros (capsOf (clip (q .c)) (clip (q .lm))) (lists zeros zeros zeros) s (freshReader s)) _ _ _
-    (λ (z : refusalRead q zeros (capsOf (clip (q .c)) (clip (q .lm))) (lists zeros zeros zeros) s (freshReader s) ≡ 0). omega (arith, refused-one q s h)))
+    (λ (z : refusalRead q zeros (capsOf (clip (q .c)) (clip (q .lm))) (lists zeros zeros zeros) s (freshReader s) ≡ 0). omega (arith, refused-one q s h))
 
 -- ---- the reader
 
@@ -142,21 +132,6 @@ whole s packet h e =
     let m = framed-size s h in
     record { most = omega arith; half = l }
 
--- ---- the line
-
-pub asks-is : (number : ℕ) (s : List ℕ) {packet : List ℕ} {r : Parsed} {q : Numbers} → framed s ≡ true → packet ≡ packetOf s → r ≡ numbersOf s → r ≡ Asks q
-    → answerOf number q packet (freshReader packet) ≡ listingOf number s
-unfolding listingOf requestOf
-asks-is number s {packet} {r} {q} h e p g =
-    let w : numbersOf s ≡ Asks q = sym p ∙ g in
-    rw (h, w, e)
-
-pub malformed-is : (number : ℕ) (s : List ℕ) {r : Parsed} → framed s ≡ true → r ≡ numbersOf s → r ≡ Malformed → refusedLine number 1 ≡ listingOf number s
-unfolding listingOf requestOf
-malformed-is number s {r} h p g =
-    let w : numbersOf s ≡ Malformed = sym p ∙ g in
-    rw (h, w)
-
 -- ---- the packet in its buffer
 
 pub record Taken (s : List ℕ) (n : ℕ) (last : List ℕ) : Type 0 where
@@ -183,14 +158,6 @@ taken s out last {n} {r} h p g = go (framed s) refl (sym (p .0) ∙ g) (p .1)
           bytes = ap (take n) k ∙ sym (ap (λ (j : ℕ). take j (sets out 0 (packetOf s))) m) ∙ bytes-in s out h e;
         }
     go false e f k = absurd (let z : _≡_ {A = ℕ} 0 1 = cc in omega arith)
-
-pub not-taken : (number : ℕ) (s : List ℕ) {r : Packet} → r ≡ packetSize s → r ≡ Bad → refusedLine number 1 ≡ listingOf number s
-unfolding listingOf requestOf
-not-taken number s {r} p g = go (framed s) (sym p ∙ g)
-  where
-    go : (b : Bool) → cond b (Bytes (length (packetHex s) / 2)) Bad ≡ Bad → refusedLine number 1 ≡ asked number (cond b (numbersOf s) Malformed) (packetOf s)
-    go true f = absurd (let z : _≡_ {A = ℕ} 0 1 = cc in omega arith)
-    go false f = refl
 
 -- ---- the call
 

@@ -3,3 +3,4 @@ pub mod Request
 pub mod Caps
 pub mod Lines
 pub mod Answer
+pub mod Decision

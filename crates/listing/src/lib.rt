@@ -1,6 +1,7 @@
 // The lister's work, one request line at a time: document 01, "The lister".
 pub mod answer;
 pub mod caps;
+pub mod decide;
 pub mod lines;
 pub mod request;
 

@@ -1,64 +1,64 @@
 -- `listing::answer::write` meets its contract. Assumes nothing.
-use mathlib.Core.Path.{refl, sym}
+use mathlib.Core.Path.{refl, ap, _∙_}
 use native.Mathlib.Omega.{arith}
-use lib.Seq.{length-take-le}
-use borrow.Author.Needs.{needs}
+use Rattle.listing.specs.Caps.{zeros}
+use Rattle.listing.specs.Decision.{Decision, printed}
 use Rattle.listing.proofs.Rows.{put-as}
-use Rattle.listing.proofs.Replies.{taken, not-taken}
+use Rattle.listing.proofs.Decisions.{decided-bands, printed-listing}
+use borrow.Author.Needs.{needs}
 use Rattle.listing.proofs.answer.write.Statement.{statement}
 use Rattle.listing.proofs.answer.write.Tie as tie
 
-slice-aggregate-packet : tie.Need-slice-aggregate-packet
-slice-aggregate-packet c = search needs
+slice-aggregate-decide : tie.Need-slice-aggregate-decide
+slice-aggregate-decide c = search needs
 
-packet-requires : tie.Need-packet-requires
-packet-requires c κs = search needs
+slice-aggregate-decide-2 : tie.Need-slice-aggregate-decide-2
+slice-aggregate-decide-2 c = search needs
 
-enum-known-n : tie.Need-enum-known-n
-enum-known-n c = search needs
+slice-aggregate-decide-3 : tie.Need-slice-aggregate-decide-3
+slice-aggregate-decide-3 c = search needs
 
-array-share-prefix-packet : tie.Need-array-share-prefix-packet
-array-share-prefix-packet c = taken (c .before .before .before .before .before .before .before .before .args .line .now) _ _ refl (c .before .before .before .before .packet2 .ensures) (c .before .n .given .1) .fits
+decide-requires : tie.Need-decide-requires
+unfolding zeros
+decide-requires c κs = (refl, refl, refl)
 
-slice-aggregate-answer-request : tie.Need-slice-aggregate-answer-request
-slice-aggregate-answer-request c = sym (length-take-le _ _ (taken (c .before .before .before .before .before .before .before .before .before .args .line .now) _ _ refl (c .before .before .before .before .before .packet2 .ensures) (c .before .before .n .given .1) .fits))
+slice-aggregate-said : tie.Need-slice-aggregate-said
+slice-aggregate-said c = search needs
 
-answer-request-requires : tie.Need-answer-request-requires
-answer-request-requires c κs = let t = taken (c .before .before .before .before .before .before .before .before .before .before .args .line .now) _ _ refl (c .before .before .before .before .before .before .packet2 .ensures) (c .before .before .before .n .given .1) in (t .good, t .bytes, omega arith)
+slice-aggregate-said-2 : tie.Need-slice-aggregate-said-2
+slice-aggregate-said-2 c = search needs
 
-enum-told : tie.Need-enum-told
-enum-told c = search needs
+slice-aggregate-said-3 : tie.Need-slice-aggregate-said-3
+slice-aggregate-said-3 c = search needs
 
-refused-requires : tie.Need-refused-requires
-refused-requires c κs = search needs
+said-requires : tie.Need-said-requires
+said-requires c κs =
+    let e = c .before .before .before .before .before .before .before .before .before .before .before .before .before in
+    let d = c .before .before .before .before .before .before .before .decide in
+    let b = decided-bands (e .args .line .now) in
+    let f = ap (λ (x : Decision). x .start) (d .ensures) in
+    let g = ap (λ (x : Decision). x .end) (d .ensures) in
+    ((omega (arith, f, g, b .0), omega (arith, g, b .1), e .pre), (d .kept .1 .0, d .kept .1 .1 .0, d .kept .1 .1 .1 .0))
 
 same-length : tie.Need-same-length
 same-length c = search needs
 
 returns : tie.Need-returns
-returns c = search needs
-
-same-length-2 : tie.Need-same-length-2
-same-length-2 c = search needs
-
-returns-2 : tie.Need-returns-2
-returns-2 c =
-    let a = c .before .before .before .before .before .before .before .before .before .before .before .args in
-    put-as 24 1200 (omega arith) (not-taken (a .number) (a .line .now) (c .before .before .before .before .before .before .before .packet2 .ensures .0) (c .before .before .before .before .enum-told .given .1)) (c .before .before .refused .ensures)
+returns c =
+    let a = c .before .before .before .before .before .before .before .before .before .before .before .before .before .before .before .before .args in
+    put-as 1200 1200 (omega arith) (ap (λ (x : Decision). printed (a .number) x) (c .before .before .before .before .before .before .before .before .before .before .decide .ensures) ∙ printed-listing (a .number) (a .line .now)) (c .before .before .said .ensures)
 
 pub write-spec : {M : Type 1} → statement M
 write-spec =
     tie.close
     (tie.spec
-    slice-aggregate-packet
-    packet-requires
-    enum-known-n
-    array-share-prefix-packet
-    slice-aggregate-answer-request
-    answer-request-requires
-    enum-told
-    refused-requires
+    slice-aggregate-decide
+    slice-aggregate-decide-2
+    slice-aggregate-decide-3
+    decide-requires
+    slice-aggregate-said
+    slice-aggregate-said-2
+    slice-aggregate-said-3
+    said-requires
     same-length
-    returns
-    same-length-2
-    returns-2)
+    returns)
