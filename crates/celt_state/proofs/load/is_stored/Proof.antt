@@ -1,6 +1,5 @@
 -- `celt_state::load::is_stored`: by the list's length. Assumes nothing.
 use native.Mathlib.Omega.{arith}
-use borrow.Author.Needs.{needs}
 use borrow.Author.Tests.{eq-eqb, ne-eqb}
 use Rattle.celt_state.proofs.load.is_stored.Statement.{statement}
 use Rattle.celt_state.proofs.load.is_stored.Tie as tie
