@@ -55,18 +55,18 @@ enum celt_place {
 
 /* Why a call was refused. Of several that apply the first is given, in the order of this list. */
 enum celt_refusal {
-    CELT_LENGTH = 2,          /* a lent length is wrong */
-    CELT_NUMBER = 1,          /* a number is outside the domain, or a text line is malformed */
-    CELT_ENTRY = 3,           /* a list entry, energy or gain is outside its range; every list is checked whole */
-    CELT_NO_ROW = 5,          /* the pulse cache index is negative for that band and LM */
-    CELT_INDEX = 6,           /* the pulse index is outside 0..row length */
-    CELT_COUNT = 7,           /* the vector count V(N,K) is 2^32 or more */
-    CELT_SUM = 8,             /* the absolute values of a vector to encode do not sum to K */
-    CELT_ROTATION = 9,        /* 2K < N and spread is not 0: a rotation would be due */
+    CELT_LENGTH = 2,          /* a list or buffer that is lent has a wrong length */
+    CELT_NUMBER = 1,          /* a number that is outside its domain, or a malformed line */
+    CELT_ENTRY = 3,           /* an entry of a list, an energy or the gain is out of range, also an entry that no band uses */
+    CELT_NO_ROW = 5,          /* the pulse cache has no row for this band and LM */
+    CELT_INDEX = 6,           /* the row of the band and LM has no such index of pulses */
+    CELT_COUNT = 7,           /* V(N,K), how many vectors there are, does not fit 32 bits */
+    CELT_SUM = 8,             /* a vector that is to be written has not K pulses */
+    CELT_ROTATION = 9,        /* 2K < N with a spread that is not 0, where the shape would be rotated */
     CELT_BELOW_NEXT = 10,     /* the frame number is below the record's next number */
     CELT_ABOVE_NEXT = 11,     /* the frame number is above the record's next number */
-    CELT_CLOSED_ALREADY = 12, /* a write or close after close */
-    CELT_PAST_END = 4         /* on entry, tell is above 8 * storage + 32 bits */
+    CELT_CLOSED_ALREADY = 12, /* the writer was closed before */
+    CELT_PAST_END = 4         /* more than 8 * storage + 32 bits were told before the call */
 };
 
 /* ---- reading. Refused as CELT_LENGTH, CELT_NUMBER and, where a symbol is read, CELT_PAST_END; a table as CELT_ENTRY too */
@@ -195,7 +195,8 @@ uint32_t celt_record_frame(float *energies, size_t energies_n, uint64_t *next, s
                            const uint8_t *packet, size_t packet_n, uint64_t number, int32_t c, int32_t lm, int32_t start, int32_t end,
                            int32_t intra);
 
-/* The record's line, without a line feed, to the front of buf, which has CELT_LINE bytes or more, and the line's length. */
+/* The record's line, without a line feed, to the front of buf, which has CELT_LINE bytes or more, and the line's length. A next number above
+ * 4,294,967,295 is CELT_NUMBER, an energy that is not finite CELT_ENTRY. */
 uint32_t celt_record_save(const float *energies, size_t energies_n, uint64_t next, uint8_t *buf, size_t buf_n, size_t *length,
                           size_t length_n);
 

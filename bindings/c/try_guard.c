@@ -11,7 +11,7 @@
 
 enum { BYTES_N = 40, TABLE_N = 3, SHAPE_N = 16, PULSES_N = 4, LINE_N = 2600, MOST = 4096 };
 
-enum list { STATE, BYTES, TABLE, VALUE, COUNTED, Y, OFFSETS, CAPS, PULSES, FINE, PRIORITIES, SHOWN, ENERGIES, SHAPE, NEXT, LENGTH, SAVED, OUT, LINE, OUTCOME, LISTS };
+enum list { STATE, BYTES, TABLE, VALUE, COUNTED, Y, OFFSETS, CAPS, PULSES, FINE, PRIORITIES, SHOWN, ENERGIES, SHAPE, NEXT, LENGTH, SAVED, OUT, LINE, OUTCOME, SYMBOLS, LISTS };
 
 /* The size of an element, and how many there are. */
 static const struct {
@@ -38,6 +38,7 @@ static const struct {
     [OUT] = {"out", 1, CELT_LISTED},
     [LINE] = {"line", 1, LINE_N},
     [OUTCOME] = {"outcome", sizeof(uint64_t), CELT_OUTCOME},
+    [SYMBOLS] = {"symbols", sizeof(uint32_t), CELT_SYMBOL},
 };
 
 /* Where each list stands, and the count that is told of it. */
@@ -117,7 +118,7 @@ CALL(record_frame, L(float, ENERGIES), L(uint64_t, NEXT), L(int64_t, STATE), L(u
 CALL(record_save, L(float, ENERGIES), 5, L(uint8_t, SAVED), L(size_t, LENGTH))
 CALL(record_restore, L(uint8_t, LINE), L(float, ENERGIES), L(uint64_t, NEXT))
 CALL(list, L(uint8_t, LINE), 7, L(uint8_t, OUT), L(size_t, LENGTH))
-CALL(round_trip, L(uint8_t, BYTES), (const uint32_t *)at[VALUE], 0, L(uint8_t, TABLE), 2, 1, 2, 19, 5, 2000, 5, 1, 0, 0, L(int32_t, OFFSETS), L(int32_t, CAPS),
+CALL(round_trip, L(uint8_t, BYTES), L(uint32_t, SYMBOLS), L(uint8_t, TABLE), 2, 1, 2, 19, 5, 2000, 5, 1, 0, 0, L(int32_t, OFFSETS), L(int32_t, CAPS),
      L(uint64_t, OUTCOME))
 
 /* A call: its lists that have one length, so that one more is CELT_LENGTH, and those of which more may be told (a table, a line, room for a line). */
@@ -237,6 +238,17 @@ void try_guard(void) {
     fill(1);
     told[BYTES] -= 1, told[TABLE] += 1;
     answers("enc_icdf", enc_icdf, CELT_LENGTH);
+
+    /* symbols that are told one number longer, alone and with every other list of the round trip: they are no list of symbols, and not read */
+    fill(0);
+    told[SYMBOLS] += 1;
+    answers("round_trip", round_trip, CELT_LENGTH);
+    fill(0);
+    for (j = 0; j < LISTS; j++)
+        told[j] += 100000001;
+    answers("round_trip", round_trip, CELT_LENGTH);
+    told[OUTCOME] = CELT_OUTCOME;
+    answers("round_trip", round_trip, CELT_LENGTH);
 
     /* a request line of 2,600 bytes, told one longer: it is malformed, and not read */
     fill(0);

@@ -48,7 +48,7 @@ static void numbers(void) {
         SAME(energies, kept);
         IS(next, number);
 
-        /* one coarse decode, and the number goes up by one */
+        /* the energies are decoded once, and the next number is one more */
         IS(celt_record_order(next, number), 0);
         IS(frame(energies, &next, number, LIST(packet), c), 0);
         IS(next, number + 1);

@@ -76,8 +76,8 @@ impl Record {
         Refusal::check(raw::record_order(self.next, number))
     }
 
-    /// Frame `number`, 0..4,294,967,294, whose coarse energies the reader stands before: one coarse decode, and the next number goes up by one. A
-    /// mono frame uses and changes channel 0 only.
+    /// Frame `number`, 0..4,294,967,294, whose coarse energies the reader stands before: they are decoded once, and the next number rises by one. Of
+    /// a mono frame only channel 0 is used and changed.
     pub fn frame(&mut self, reader: &mut Reader<'_>, number: u64, coarse: &Coarse) -> Result<(), Refusal> {
         let mut next = [self.next];
         let (state, packet) = reader.parts();

@@ -14,29 +14,29 @@ use std::fmt;
 /// ```
 #[derive(Clone, Copy, Debug, PartialEq, Eq, Hash)]
 pub enum Refusal {
-    /// 2: a lent length is wrong.
+    /// 2: a list or buffer that is lent has a wrong length.
     Length,
-    /// 1: a number is outside the domain, or a text line is malformed.
+    /// 1: a number that is outside its domain, or a malformed line.
     Number,
-    /// 3: a list entry, energy or gain is outside its range.
+    /// 3: an entry of a list, an energy or the gain is out of range.
     Entry,
-    /// 5: the pulse cache index is negative for that band and LM.
+    /// 5: the pulse cache has no row for this band and LM.
     NoRow,
-    /// 6: the pulse index is outside 0..row length.
+    /// 6: the row of the band and LM has no such index of pulses.
     Index,
-    /// 7: the vector count V(N,K) is 2^32 or more.
+    /// 7: V(N,K), how many vectors there are, does not fit 32 bits.
     Count,
-    /// 8: the absolute values of a vector to encode do not sum to K.
+    /// 8: a vector that is to be written has not K pulses.
     Sum,
-    /// 9: 2K < N and spread is not 0: a rotation would be due.
+    /// 9: 2K < N with a spread that is not 0, where the shape would be rotated.
     Rotation,
     /// 10: the frame number is below the record's next number.
     BelowNext,
     /// 11: the frame number is above the record's next number.
     AboveNext,
-    /// 12: a write or close after close.
+    /// 12: the writer was closed before.
     Closed,
-    /// 4: on entry, tell is above 8 * storage + 32 bits.
+    /// 4: more than 8 * storage + 32 bits were told before the call.
     PastEnd,
 }
 
@@ -78,7 +78,7 @@ impl Refusal {
         }
     }
 
-    /// What an exported call answered: 0 is no refusal. Every other answer is a number of this list, which is proved.
+    /// What an exported call answered: 0 is no refusal. By the calls' contracts every other answer is a number of this list.
     pub(crate) fn check(answer: u32) -> Result<(), Refusal> {
         if answer == 0 {
             return Ok(());
@@ -93,18 +93,18 @@ impl Refusal {
 impl fmt::Display for Refusal {
     fn fmt(&self, f: &mut fmt::Formatter<'_>) -> fmt::Result {
         f.write_str(match self {
-            Refusal::Number => "1: a number is outside the domain, or a text line is malformed",
-            Refusal::Length => "2: a lent length is wrong",
-            Refusal::Entry => "3: a list entry, energy or gain is outside its range",
-            Refusal::PastEnd => "4: on entry, tell is above 8 * storage + 32 bits",
-            Refusal::NoRow => "5: the pulse cache index is negative for that band and LM",
-            Refusal::Index => "6: the pulse index is outside 0..row length",
-            Refusal::Count => "7: the vector count V(N,K) is 2^32 or more",
-            Refusal::Sum => "8: the absolute values of the vector to encode do not sum to K",
-            Refusal::Rotation => "9: 2K < N and spread is not 0: a rotation would be due",
+            Refusal::Number => "1: a number that is outside its domain, or a malformed line",
+            Refusal::Length => "2: a list or buffer that is lent has a wrong length",
+            Refusal::Entry => "3: an entry of a list, an energy or the gain is out of range",
+            Refusal::PastEnd => "4: more than 8 * storage + 32 bits were told before the call",
+            Refusal::NoRow => "5: the pulse cache has no row for this band and LM",
+            Refusal::Index => "6: the row of the band and LM has no such index of pulses",
+            Refusal::Count => "7: V(N,K), how many vectors there are, does not fit 32 bits",
+            Refusal::Sum => "8: a vector that is to be written has not K pulses",
+            Refusal::Rotation => "9: 2K < N with a spread that is not 0, where the shape would be rotated",
             Refusal::BelowNext => "10: the frame number is below the record's next number",
             Refusal::AboveNext => "11: the frame number is above the record's next number",
-            Refusal::Closed => "12: a write or close after close",
+            Refusal::Closed => "12: the writer was closed before",
         })
     }
 }

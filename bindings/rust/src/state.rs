@@ -1,4 +1,4 @@
-/// A coder's state: twelve numbers, in the Rust crate unopus' order and encoding, and whether a writer is closed.
+/// A coder's state: eleven numbers in the Rust crate unopus' order and encoding, and a twelfth that says whether a writer is closed.
 ///
 /// Any numbers may stand in it. A state that breaks its rule is refused by every call, as [`crate::Refusal::Number`], or as
 /// [`crate::Refusal::Length`] where its storage is not the count of the bytes.

@@ -57,7 +57,7 @@ pub enum Outcome {
 }
 
 impl Outcome {
-    /// What the four numbers of the exported call say. Others than these it does not give, which is proved.
+    /// What the four numbers of the exported call say. By its contract it gives no others than these.
     fn of([how, by, which, why]: [u64; 4]) -> Outcome {
         let refusal = || Refusal::check(why as u32).expect_err("a refusal has a number");
         match (how, by) {

@@ -29,7 +29,7 @@ struct lent *lend_for_writing(const char *name, size_t size, size_t count);
 void may_change(struct lent *list, size_t from, size_t to);
 
 /* Where a length is wrong the call must not read an entry: it sees every list in a page that can be neither read nor written, but those that it has to read to
- * know the lengths (a state, a record, the symbols of a round trip), each of its right length. */
+ * know the lengths (a state, a record), each of its right length. */
 void hide(int wrong_length);
 
 /* Takes all lists back. */
