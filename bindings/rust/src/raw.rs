@@ -238,7 +238,8 @@ pub fn pulses2bits(band: i32, lm: i32, pulses: i32, value: &mut [u32]) -> u32 {
 
 // ---- Bit allocation
 
-/// Reads an allocation: the bands go into three lists of 21, coded bands, balance, intensity and dual stereo into shown.
+/// Reads an allocation: the bands go into three lists of 21, coded bands, balance, intensity and dual stereo into shown. Offsets and caps are checked
+/// whole: [`crate::Frame`] says what has to stand outside start..end-1.
 #[allow(clippy::too_many_arguments)]
 pub fn compute_allocation_read(
     state: &mut [i64],
@@ -443,7 +444,7 @@ pub fn record_fresh(energies: &mut [f32], next: &mut [u64]) -> u32 {
     unsafe { exported::celt_record_fresh(energies.as_mut_ptr(), energies.len(), next.as_mut_ptr(), next.len()) }
 }
 
-/// A frame's number against the next one: 0, 10 or 11.
+/// A frame's number against the next one: 0, 10 or 11; 1 where either is outside its domain.
 pub fn record_order(next: u64, number: u64) -> u32 {
     unsafe { exported::celt_record_order(next, number) }
 }

@@ -205,7 +205,24 @@ fn refusals() {
 #[test]
 fn lengths() {
     let call = |offsets: &[i32], caps: &[i32], outcome: &mut [u64]| {
-        raw::round_trip(&[7; 9], &[0, 1, 3, 0, 0], &[], 1, 0, 0, 21, 5, 100, 0, 0, 0, 0, offsets, caps, outcome)
+        raw::round_trip(
+            &[7; 9],
+            &[0, 1, 3, 0, 0],
+            &[],
+            1,
+            0,
+            0,
+            21,
+            5,
+            100,
+            0,
+            0,
+            0,
+            0,
+            offsets,
+            caps,
+            outcome,
+        )
     };
     for n in [0, 1, 3, 5, 1000] {
         let mut outcome = vec![77; n];
@@ -229,7 +246,24 @@ fn no_symbols() {
     let call = |symbols: &[u32], caps: &[i32]| {
         let mut outcome = [77; 4];
         let tables = [7, 2, 1, 0];
-        let answer = raw::round_trip(&[7; 9], symbols, &tables, 1, 0, 0, 21, 5, 100, 0, 0, 0, 0, &[0; 21], caps, &mut outcome);
+        let answer = raw::round_trip(
+            &[7; 9],
+            symbols,
+            &tables,
+            1,
+            0,
+            0,
+            21,
+            5,
+            100,
+            0,
+            0,
+            0,
+            0,
+            &[0; 21],
+            caps,
+            &mut outcome,
+        );
         (answer, outcome)
     };
     let kept = |no| (no, [77; 4]);
