@@ -1,4 +1,4 @@
--- A coder's state as other languages hold it: twelve numbers, in the crate's order and encoding, and whether the writer is closed.
+-- A coder's state as other languages hold it: eleven numbers, in the crate's order and encoding, and whether the writer is closed.
 --
 --      0 storage    1 end_offs   2 end_window   3 nend_bits   4 nbits_total   5 offs
 --      6 rng        7 val        8 ext          9 rem        10 error        11 closed
@@ -67,7 +67,7 @@ readerFits l = every isCount (take 10 l)
 abbrev pub writerFits : List ℤ → Bool
 writerFits l = every isCount (take 9 l) && heldFits (entry l 9)
 
--- the range of a state: 0, which every call refuses as 1, where a number of the list does not fit
+-- the range of a state: 0, which breaks its rule, where a number of the list does not fit
 unfoldable pub rangeOf : Bool → ℤ → ℕ
 rangeOf fits z = cond fits (countOf z) 0
 

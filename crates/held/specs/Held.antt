@@ -43,7 +43,7 @@ moved h d = record { buf = h .buf; num = d }
 
 -- ---- a new reader
 
--- the numbers of a reader whose packet was refused: every read refuses them
+-- the numbers of a reader whose packet was refused; they break the rule of a reader: their range is 0
 unfoldable pub noReader : Reader
 noReader =
     record { storage = 0; offs = 0; ends = 0; window = 0; waiting = 0; total = 0; rng = 0; val = 0; ext = 0; rem = 0; error = true }
