@@ -1,5 +1,5 @@
 """Trials of commands: each says what it tries and what it expects, and one that fails shows both, with what came."""
-import os, re, subprocess, sys
+import os, re, select, signal, subprocess, sys
 
 # no trial takes this many seconds unless it waits for ever
 PATIENCE = 60
@@ -43,6 +43,24 @@ class Trials:
             print(f"{self.name}: {line}")
         print(f"{self.name}: {self.tried} tried, {self.failed} not as expected")
         sys.exit(1 if self.failed else 0)
+
+
+def ends_with_its_script(t, words, request, answer, end):
+    """A script that a signal ends alone, after its program answered a line and while its input stays open: the program ends too, and closes its output."""
+    # who runs the trials may ignore the signal, as nohup does, and a child would inherit that
+    heed = None if end == signal.SIGKILL else lambda: signal.signal(end, signal.SIG_DFL)
+    pipes = {"stdin": subprocess.PIPE, "stdout": subprocess.PIPE, "stderr": subprocess.PIPE}
+    p = subprocess.Popen(words, cwd=t.folder, env=t.environment, bufsize=0, preexec_fn=heed, **pipes)
+    p.stdin.write(request)
+    came = b""
+    while len(came) < len(answer) and select.select([p.stdout], [], [], PATIENCE)[0]:
+        came += p.stdout.read(len(answer) - len(came)) or b"[it ended before]"
+    p.send_signal(end)
+    status = p.wait(timeout=PATIENCE)
+    closed = select.select([p.stdout], [], [], PATIENCE)[0]
+    came += p.stdout.read() if closed else b"[it goes on]"
+    p.stdin.close()
+    t.holds(f"{end.name} to {words[0]} alone ends its program too", (answer, b"", -end), (came, p.stderr.read(), status))
 
 
 def shown(text):

@@ -1,4 +1,4 @@
-/* Tries every call of celt.h: good ones against document 01's figures and against each other, every refusal, and their order. */
+/* Tries every call of gurthapen.h: good ones against document 01's figures and against each other, every refusal, and their order. */
 #include "try.h"
 
 unsigned tried, failed;

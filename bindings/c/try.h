@@ -2,7 +2,7 @@
 #ifndef TRY_H
 #define TRY_H
 
-#include "celt.h"
+#include "gurthapen.h"
 
 #include <stdio.h>
 #include <string.h>

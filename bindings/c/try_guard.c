@@ -1,5 +1,5 @@
-/* Lengths before entries: every list stands directly before a page that can be neither read nor written, and lists are told longer than they are.
- * Where a told length is wrong the answer is CELT_LENGTH, no list is read past its end, and all are as they were. */
+/* Lengths before entries: every list stands directly before a page that can be neither read nor written, and lists are lent with a
+ * count that is higher than their length. Where a count is wrong the answer is GURTHAPEN_LENGTH, no list is read past its end, and all are as they were. */
 #define _GNU_SOURCE
 #include "try.h"
 
@@ -11,39 +11,40 @@
 
 enum { BYTES_N = 40, TABLE_N = 3, SHAPE_N = 16, PULSES_N = 4, LINE_N = 2600, MOST = 4096 };
 
-enum list { STATE, BYTES, TABLE, VALUE, COUNTED, Y, OFFSETS, CAPS, PULSES, FINE, PRIORITIES, SHOWN, ENERGIES, SHAPE, NEXT, LENGTH, SAVED, OUT, LINE, OUTCOME, SYMBOLS, LISTS };
+enum list { STATE, BYTES, TABLE, VALUE, COUNTED, Y, OFFSETS, CAPS, PULSES, FINE, PRIORITIES, SHOWN, ENERGIES, SHAPE, NEXT, LENGTH, SAVED, OUT, LINE,
+    OUTCOME, SYMBOLS, LISTS };
 
 /* The size of an element, and how many there are. */
 static const struct {
     const char *name;
     size_t size, count;
 } kinds[LISTS] = {
-    [STATE] = {"state", sizeof(int64_t), CELT_STATE},
+    [STATE] = {"state", sizeof(int64_t), GURTHAPEN_STATE},
     [BYTES] = {"bytes", 1, BYTES_N},
     [TABLE] = {"table", 1, TABLE_N},
     [VALUE] = {"value", sizeof(uint32_t), 1},
     [COUNTED] = {"counted", sizeof(int32_t), 1},
-    [Y] = {"y", sizeof(int32_t), CELT_ROOM},
-    [OFFSETS] = {"offsets", sizeof(int32_t), CELT_BANDS},
-    [CAPS] = {"caps", sizeof(int32_t), CELT_BANDS},
-    [PULSES] = {"pulses", sizeof(int32_t), CELT_BANDS},
-    [FINE] = {"fine", sizeof(int32_t), CELT_BANDS},
-    [PRIORITIES] = {"priorities", sizeof(int32_t), CELT_BANDS},
-    [SHOWN] = {"shown", sizeof(int32_t), CELT_SHOWN},
-    [ENERGIES] = {"energies", sizeof(float), CELT_ENERGIES},
+    [Y] = {"y", sizeof(int32_t), GURTHAPEN_ROOM},
+    [OFFSETS] = {"offsets", sizeof(int32_t), GURTHAPEN_BANDS},
+    [CAPS] = {"caps", sizeof(int32_t), GURTHAPEN_BANDS},
+    [PULSES] = {"pulses", sizeof(int32_t), GURTHAPEN_BANDS},
+    [FINE] = {"fine", sizeof(int32_t), GURTHAPEN_BANDS},
+    [PRIORITIES] = {"priorities", sizeof(int32_t), GURTHAPEN_BANDS},
+    [SHOWN] = {"shown", sizeof(int32_t), GURTHAPEN_SHOWN},
+    [ENERGIES] = {"energies", sizeof(float), GURTHAPEN_ENERGIES},
     [SHAPE] = {"shape", sizeof(float), SHAPE_N},
     [NEXT] = {"next", sizeof(uint64_t), 1},
     [LENGTH] = {"length", sizeof(size_t), 1},
-    [SAVED] = {"saved", 1, CELT_LINE},
-    [OUT] = {"out", 1, CELT_LISTED},
+    [SAVED] = {"saved", 1, GURTHAPEN_LINE},
+    [OUT] = {"out", 1, GURTHAPEN_LISTED},
     [LINE] = {"line", 1, LINE_N},
-    [OUTCOME] = {"outcome", sizeof(uint64_t), CELT_OUTCOME},
-    [SYMBOLS] = {"symbols", sizeof(uint32_t), CELT_SYMBOL},
+    [OUTCOME] = {"outcome", sizeof(uint64_t), GURTHAPEN_OUTCOME},
+    [SYMBOLS] = {"symbols", sizeof(uint32_t), GURTHAPEN_SYMBOL},
 };
 
-/* Where each list stands, and the count that is told of it. */
+/* Where each list stands, and the count that is given with it. */
 static void *at[LISTS];
-static size_t told[LISTS];
+static size_t given[LISTS];
 
 /* What each held before the call. */
 static unsigned char before[LISTS][MOST];
@@ -67,22 +68,22 @@ static void fill(int writes) {
     size_t i;
     for (i = 0; i < LISTS; i++) {
         memset(at[i], 0, kinds[i].size * kinds[i].count);
-        told[i] = kinds[i].count;
+        given[i] = kinds[i].count;
     }
-    for (i = 0; i < CELT_BANDS; i++)
+    for (i = 0; i < GURTHAPEN_BANDS; i++)
         caps[i] = 1000;
     table[0] = 2, table[1] = 1;
     y[0] = PULSES_N;
     *(uint64_t *)at[NEXT] = 5;
     memset(at[LINE], '0', LINE_N);
     memcpy(at[LINE], "1\t0\t0\t1\t5\t71\t", 13);
-    IS(writes ? celt_enc_new(at[STATE], CELT_STATE, at[BYTES], BYTES_N) : celt_dec_new(at[STATE], CELT_STATE, at[BYTES], BYTES_N), 0);
+    IS(writes ? gurthapen_enc_new(at[STATE], GURTHAPEN_STATE, at[BYTES], BYTES_N) : gurthapen_dec_new(at[STATE], GURTHAPEN_STATE, at[BYTES], BYTES_N), 0);
 }
 
 /* A list, lent. */
-#define L(type, list) (type *)at[list], told[list]
+#define L(type, list) (type *)at[list], given[list]
 #define CALL(name, ...)                                                                                    \
-    static uint32_t name(void) { return celt_##name(__VA_ARGS__); }
+    static uint32_t name(void) { return gurthapen_##name(__VA_ARGS__); }
 
 CALL(dec_new, L(int64_t, STATE), L(uint8_t, BYTES))
 CALL(enc_new, L(int64_t, STATE), L(uint8_t, BYTES))
@@ -121,7 +122,7 @@ CALL(list, L(uint8_t, LINE), 7, L(uint8_t, OUT), L(size_t, LENGTH))
 CALL(round_trip, L(uint8_t, BYTES), L(uint32_t, SYMBOLS), L(uint8_t, TABLE), 2, 1, 2, 19, 5, 2000, 5, 1, 0, 0, L(int32_t, OFFSETS), L(int32_t, CAPS),
      L(uint64_t, OUTCOME))
 
-/* A call: its lists that have one length, so that one more is CELT_LENGTH, and those of which more may be told (a table, a line, room for a line). */
+/* A call: its lists that have one length, so that one more is GURTHAPEN_LENGTH, and those of which more may be given (a table, a line, room for a line). */
 #define TO(list) (1u << (list))
 #define BANDS (TO(OFFSETS) | TO(CAPS) | TO(PULSES) | TO(FINE) | TO(PRIORITIES) | TO(SHOWN))
 #define CODER (TO(STATE) | TO(BYTES))
@@ -195,10 +196,11 @@ static void answers(const char *name, uint32_t (*call)(void), uint32_t want) {
     tried++;
     if (got != want || (got != 0 && changed)) {
         failed++;
-        printf("%s: celt_%s %s %u, not %u, or changed something; told", __FILE__, name, got == TRAP ? "was trapped," : "answered", (unsigned)got, (unsigned)want);
+        printf("%s: gurthapen_%s %s %u, not %u, or changed something; given", __FILE__, name, got == TRAP ? "was trapped," : "answered", (unsigned)got,
+               (unsigned)want);
         for (i = 0; i < LISTS; i++)
-            if (told[i] != kinds[i].count)
-                printf(" %s %zu", kinds[i].name, told[i]);
+            if (given[i] != kinds[i].count)
+                printf(" %s %zu", kinds[i].name, given[i]);
         printf("\n");
     }
 }
@@ -226,33 +228,33 @@ void try_guard(void) {
                     fill(calls[i].writes);
                     for (j = 0; j < LISTS; j++)
                         if (lists >> j & 1)
-                            told[j] += more[k];
-                    answers(calls[i].name, calls[i].call, CELT_LENGTH);
+                            given[j] += more[k];
+                    answers(calls[i].name, calls[i].call, GURTHAPEN_LENGTH);
                 }
     }
 
-    /* a table or a vector beside bytes of which fewer are told */
+    /* a table or a vector beside bytes of which fewer are given */
     fill(0);
-    told[BYTES] -= 1, told[TABLE] += 1;
-    answers("dec_icdf", dec_icdf, CELT_LENGTH);
+    given[BYTES] -= 1, given[TABLE] += 1;
+    answers("dec_icdf", dec_icdf, GURTHAPEN_LENGTH);
     fill(1);
-    told[BYTES] -= 1, told[TABLE] += 1;
-    answers("enc_icdf", enc_icdf, CELT_LENGTH);
+    given[BYTES] -= 1, given[TABLE] += 1;
+    answers("enc_icdf", enc_icdf, GURTHAPEN_LENGTH);
 
-    /* symbols that are told one number longer, alone and with every other list of the round trip: they are no list of symbols, and not read */
+    /* symbols with a count of one more, alone and with every other list of the round trip: they are no list of symbols, and not read */
     fill(0);
-    told[SYMBOLS] += 1;
-    answers("round_trip", round_trip, CELT_LENGTH);
+    given[SYMBOLS] += 1;
+    answers("round_trip", round_trip, GURTHAPEN_LENGTH);
     fill(0);
     for (j = 0; j < LISTS; j++)
-        told[j] += 100000001;
-    answers("round_trip", round_trip, CELT_LENGTH);
-    told[OUTCOME] = CELT_OUTCOME;
-    answers("round_trip", round_trip, CELT_LENGTH);
+        given[j] += 100000001;
+    answers("round_trip", round_trip, GURTHAPEN_LENGTH);
+    given[OUTCOME] = GURTHAPEN_OUTCOME;
+    answers("round_trip", round_trip, GURTHAPEN_LENGTH);
 
-    /* a request line of 2,600 bytes, told one longer: it is malformed, and not read */
+    /* a request line of 2,600 bytes, with a count of one more: it is malformed, and not read */
     fill(0);
-    told[LINE] += 1;
+    given[LINE] += 1;
     answers("list", list, 0);
     IS(*(size_t *)at[LENGTH], 6);
     IS(memcmp(at[OUT], "X\t7\t1\n", 6), 0);

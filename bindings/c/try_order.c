@@ -6,25 +6,25 @@
 
 enum { BYTES = 40, N = 16, K = 4 };
 
-/* All that any call is lent or told. A list has one element more than it is lent, so that too long a one can be lent too. */
+/* All that any call is lent or given. A list has one element more than it is lent, so that too long a one can be lent too. */
 struct given {
-    int64_t state[CELT_STATE + 1];
+    int64_t state[GURTHAPEN_STATE + 1];
     uint8_t bytes[BYTES + 1];
     uint8_t table[3];
     uint32_t value[2];
     int32_t counted[2];
-    int32_t y[CELT_ROOM + 1];
-    int32_t offsets[CELT_BANDS + 1], caps[CELT_BANDS + 1], pulses[CELT_BANDS + 1], fine[CELT_BANDS + 1], priorities[CELT_BANDS + 1];
-    int32_t shown[CELT_SHOWN + 1];
-    float energies[CELT_ENERGIES + 1];
+    int32_t y[GURTHAPEN_ROOM + 1];
+    int32_t offsets[GURTHAPEN_BANDS + 1], caps[GURTHAPEN_BANDS + 1], pulses[GURTHAPEN_BANDS + 1], fine[GURTHAPEN_BANDS + 1], priorities[GURTHAPEN_BANDS + 1];
+    int32_t shown[GURTHAPEN_SHOWN + 1];
+    float energies[GURTHAPEN_ENERGIES + 1];
     float shape[N + 1];
     uint64_t next[2];
     size_t length[2];
-    uint32_t symbols[CELT_SYMBOL];
-    uint64_t outcome[CELT_OUTCOME + 1];
-    uint8_t line[4 + 9 * CELT_ENERGIES]; /* E, the number 5, energies of 1 */
-    uint8_t saved[CELT_LINE];
-    uint8_t out[CELT_LISTED];
+    uint32_t symbols[GURTHAPEN_SYMBOL];
+    uint64_t outcome[GURTHAPEN_OUTCOME + 1];
+    uint8_t line[4 + 9 * GURTHAPEN_ENERGIES]; /* E, the number 5, energies of 1 */
+    uint8_t saved[GURTHAPEN_LINE];
+    uint8_t out[GURTHAPEN_LISTED];
     size_t state_n, bytes_n, table_n, value_n, counted_n, y_n, offsets_n, caps_n, pulses_n, fine_n, priorities_n, shown_n, energies_n, shape_n;
     size_t next_n, length_n, line_n, saved_n, out_n, symbols_n, outcome_n;
     uint32_t logp, ftb, ft, raw, bit, symbol, below, raw_value, fs, decay, n, k;
@@ -37,10 +37,10 @@ struct given {
 static void good(struct given *g, int writes) {
     size_t i, n;
     memset(g, 0, sizeof *g);
-    g->state_n = CELT_STATE, g->bytes_n = BYTES, g->table_n = 3, g->value_n = g->counted_n = g->next_n = g->length_n = 1, g->y_n = CELT_ROOM;
-    g->offsets_n = g->caps_n = g->pulses_n = g->fine_n = g->priorities_n = CELT_BANDS, g->shown_n = CELT_SHOWN;
-    g->energies_n = CELT_ENERGIES, g->shape_n = N, g->saved_n = CELT_LINE, g->out_n = CELT_LISTED;
-    g->symbols_n = CELT_SYMBOL, g->outcome_n = CELT_OUTCOME;
+    g->state_n = GURTHAPEN_STATE, g->bytes_n = BYTES, g->table_n = 3, g->value_n = g->counted_n = g->next_n = g->length_n = 1, g->y_n = GURTHAPEN_ROOM;
+    g->offsets_n = g->caps_n = g->pulses_n = g->fine_n = g->priorities_n = GURTHAPEN_BANDS, g->shown_n = GURTHAPEN_SHOWN;
+    g->energies_n = GURTHAPEN_ENERGIES, g->shape_n = N, g->saved_n = GURTHAPEN_LINE, g->out_n = GURTHAPEN_LISTED;
+    g->symbols_n = GURTHAPEN_SYMBOL, g->outcome_n = GURTHAPEN_OUTCOME;
     g->table[0] = 2, g->table[1] = 1;
     g->logp = 3, g->ftb = 2, g->ft = 1000, g->raw = 5, g->bit = 1, g->symbol = 1, g->below = 999, g->raw_value = 31, g->fs = 72 << 7, g->decay = 127 << 6;
     g->n = N, g->k = K, g->y[1] = -3, g->y[5] = 1;
@@ -48,14 +48,14 @@ static void good(struct given *g, int writes) {
     g->c = 2, g->lm = 1, g->start = 2, g->end = 19, g->trim = 5, g->total = 2000, g->intensity = 5, g->dual = 1, g->intra = 1, g->left = 3;
     g->places = N, g->count = K, g->parts = 4, g->gain = 0.5f;
     g->next[0] = g->number = 5;
-    g->symbols[0] = CELT_UNIFORM, g->symbols[1] = 999, g->symbols[2] = 1000;
-    for (i = 0; i < CELT_BANDS; i++)
+    g->symbols[0] = GURTHAPEN_UNIFORM, g->symbols[1] = 999, g->symbols[2] = 1000;
+    for (i = 0; i < GURTHAPEN_BANDS; i++)
         g->caps[i] = 1000;
     n = (size_t)sprintf((char *)g->line, "E\t5");
-    for (i = 0; i < CELT_ENERGIES; i++)
+    for (i = 0; i < GURTHAPEN_ENERGIES; i++)
         n += (size_t)sprintf((char *)g->line + n, "\t3f800000");
     g->line_n = n;
-    IS(writes ? celt_enc_new(g->state, CELT_STATE, g->bytes, BYTES) : celt_dec_new(g->state, CELT_STATE, g->bytes, BYTES), 0);
+    IS(writes ? gurthapen_enc_new(g->state, GURTHAPEN_STATE, g->bytes, BYTES) : gurthapen_dec_new(g->state, GURTHAPEN_STATE, g->bytes, BYTES), 0);
 }
 
 /* One way to spoil a call, and the refusal that it is. */
@@ -69,84 +69,94 @@ struct wrong {
 #define FIELD(field) offsetof(struct given, field), sizeof(((struct given *)0)->field)
 #define SPOILT(field, value) (&(const __typeof__(((struct given *)0)->field)){value})
 #define WRONG(answer, field, value) {answer, FIELD(field), SPOILT(field, value), 0}
-#define SIZED(field, right) {CELT_LENGTH, FIELD(field), SPOILT(field, (right)-1), right}
+#define SIZED(field, right) {GURTHAPEN_LENGTH, FIELD(field), SPOILT(field, (right)-1), right}
 
 /* In document 01's order: of two that change the same place the first is put last, and stays. */
-#define STATE_2 SIZED(state_n, CELT_STATE), SIZED(bytes_n, BYTES), WRONG(CELT_LENGTH, state[CELT_STORAGE], BYTES - 2)
-#define READER_1 WRONG(CELT_NUMBER, state[CELT_RNG], 1 << 23), WRONG(CELT_NUMBER, state[CELT_REM], -1)
-#define WRITER_1 WRONG(CELT_NUMBER, state[CELT_RNG], 1 << 23), WRONG(CELT_NUMBER, state[CELT_EXT], 65536)
-#define CLOSED_12 WRONG(CELT_CLOSED_ALREADY, state[CELT_CLOSED], 1)
-#define END_4 WRONG(CELT_PAST_END, state[CELT_NBITS_TOTAL], 8 * BYTES + 32 + 33)
+#define STATE_2 SIZED(state_n, GURTHAPEN_STATE), SIZED(bytes_n, BYTES), WRONG(GURTHAPEN_LENGTH, state[GURTHAPEN_STORAGE], BYTES - 2)
+#define READER_1 WRONG(GURTHAPEN_NUMBER, state[GURTHAPEN_RNG], 1 << 23), WRONG(GURTHAPEN_NUMBER, state[GURTHAPEN_REM], -1)
+#define WRITER_1 WRONG(GURTHAPEN_NUMBER, state[GURTHAPEN_RNG], 1 << 23), WRONG(GURTHAPEN_NUMBER, state[GURTHAPEN_EXT], 65536)
+#define CLOSED_12 WRONG(GURTHAPEN_CLOSED_ALREADY, state[GURTHAPEN_CLOSED], 1)
+#define END_4 WRONG(GURTHAPEN_PAST_END, state[GURTHAPEN_NBITS_TOTAL], 8 * BYTES + 32 + 33)
 
 #define CALL(name, ...)                                                                                    \
-    static uint32_t name(struct given *g) { return celt_##name(__VA_ARGS__); }                             \
+    static uint32_t name(struct given *g) { return gurthapen_##name(__VA_ARGS__); }                             \
     static const struct wrong name##_wrong[]
 
 /* A list, lent. */
 #define L(list) g->list, g->list##_n
 
-CALL(dec_new, L(state), L(bytes)) = {SIZED(state_n, CELT_STATE)};
-CALL(enc_new, L(state), L(bytes)) = {SIZED(state_n, CELT_STATE)};
-CALL(dec_bit_logp, L(state), L(bytes), g->logp, L(value)) = {STATE_2, SIZED(value_n, 1), READER_1, WRONG(CELT_NUMBER, logp, 16), END_4};
+CALL(dec_new, L(state), L(bytes)) = {SIZED(state_n, GURTHAPEN_STATE)};
+CALL(enc_new, L(state), L(bytes)) = {SIZED(state_n, GURTHAPEN_STATE)};
+CALL(dec_bit_logp, L(state), L(bytes), g->logp, L(value)) = {STATE_2, SIZED(value_n, 1), READER_1, WRONG(GURTHAPEN_NUMBER, logp, 16), END_4};
 CALL(dec_icdf, L(state), L(bytes), L(table), g->ftb, L(value)) = {
-    STATE_2, SIZED(value_n, 1), WRONG(CELT_LENGTH, table_n, 0), READER_1, WRONG(CELT_NUMBER, ftb, 9), WRONG(CELT_ENTRY, table[1], 2), WRONG(CELT_ENTRY, table[2], 1), END_4};
-CALL(dec_uint, L(state), L(bytes), g->ft, L(value)) = {STATE_2, SIZED(value_n, 1), READER_1, WRONG(CELT_NUMBER, ft, 1), END_4};
-CALL(dec_bits, L(state), L(bytes), g->raw, L(value)) = {STATE_2, SIZED(value_n, 1), READER_1, WRONG(CELT_NUMBER, raw, 26), END_4};
-CALL(dec_tell, L(state), L(value)) = {SIZED(state_n, CELT_STATE), SIZED(value_n, 1), READER_1};
-CALL(dec_tell_frac, L(state), L(value)) = {SIZED(state_n, CELT_STATE), SIZED(value_n, 1), READER_1};
-CALL(enc_bit_logp, L(state), L(bytes), g->bit, g->logp) = {STATE_2, WRITER_1, WRONG(CELT_NUMBER, bit, 2), WRONG(CELT_NUMBER, logp, 0), CLOSED_12, END_4};
+    STATE_2, SIZED(value_n, 1), WRONG(GURTHAPEN_LENGTH, table_n, 0), READER_1, WRONG(GURTHAPEN_NUMBER, ftb, 9), WRONG(GURTHAPEN_ENTRY, table[1], 2),
+    WRONG(GURTHAPEN_ENTRY, table[2], 1), END_4};
+CALL(dec_uint, L(state), L(bytes), g->ft, L(value)) = {STATE_2, SIZED(value_n, 1), READER_1, WRONG(GURTHAPEN_NUMBER, ft, 1), END_4};
+CALL(dec_bits, L(state), L(bytes), g->raw, L(value)) = {STATE_2, SIZED(value_n, 1), READER_1, WRONG(GURTHAPEN_NUMBER, raw, 26), END_4};
+CALL(dec_tell, L(state), L(value)) = {SIZED(state_n, GURTHAPEN_STATE), SIZED(value_n, 1), READER_1};
+CALL(dec_tell_frac, L(state), L(value)) = {SIZED(state_n, GURTHAPEN_STATE), SIZED(value_n, 1), READER_1};
+CALL(enc_bit_logp, L(state), L(bytes), g->bit, g->logp) = {STATE_2, WRITER_1, WRONG(GURTHAPEN_NUMBER, bit, 2), WRONG(GURTHAPEN_NUMBER, logp, 0),
+    CLOSED_12, END_4};
 CALL(enc_icdf, L(state), L(bytes), g->symbol, L(table), g->ftb) = {
-    STATE_2, WRONG(CELT_LENGTH, table_n, 0), WRITER_1, WRONG(CELT_NUMBER, symbol, 3), WRONG(CELT_NUMBER, ftb, 0), WRONG(CELT_ENTRY, table[0], 4), CLOSED_12, END_4};
-CALL(enc_uint, L(state), L(bytes), g->below, g->ft) = {STATE_2, WRITER_1, WRONG(CELT_NUMBER, ft, 0), WRONG(CELT_NUMBER, below, UINT32_MAX), CLOSED_12, END_4};
+    STATE_2, WRONG(GURTHAPEN_LENGTH, table_n, 0), WRITER_1, WRONG(GURTHAPEN_NUMBER, symbol, 3), WRONG(GURTHAPEN_NUMBER, ftb, 0),
+    WRONG(GURTHAPEN_ENTRY, table[0], 4), CLOSED_12, END_4};
+CALL(enc_uint, L(state), L(bytes), g->below, g->ft) = {STATE_2, WRITER_1, WRONG(GURTHAPEN_NUMBER, ft, 0), WRONG(GURTHAPEN_NUMBER, below, UINT32_MAX),
+    CLOSED_12, END_4};
 CALL(enc_bits, L(state), L(bytes), g->raw_value, g->raw) = {
-    STATE_2, WRITER_1, WRONG(CELT_NUMBER, raw, 0), WRONG(CELT_NUMBER, raw_value, 1u << 31), CLOSED_12, END_4};
+    STATE_2, WRITER_1, WRONG(GURTHAPEN_NUMBER, raw, 0), WRONG(GURTHAPEN_NUMBER, raw_value, 1u << 31), CLOSED_12, END_4};
 CALL(enc_close, L(state), L(bytes)) = {STATE_2, WRITER_1, CLOSED_12};
-CALL(enc_tell, L(state), L(value)) = {SIZED(state_n, CELT_STATE), SIZED(value_n, 1), WRITER_1};
-CALL(enc_tell_frac, L(state), L(value)) = {SIZED(state_n, CELT_STATE), SIZED(value_n, 1), WRITER_1};
+CALL(enc_tell, L(state), L(value)) = {SIZED(state_n, GURTHAPEN_STATE), SIZED(value_n, 1), WRITER_1};
+CALL(enc_tell_frac, L(state), L(value)) = {SIZED(state_n, GURTHAPEN_STATE), SIZED(value_n, 1), WRITER_1};
 CALL(laplace_decode, L(state), L(bytes), g->fs, g->decay, L(counted)) = {
-    STATE_2, SIZED(counted_n, 1), READER_1, WRONG(CELT_NUMBER, fs, 128), WRONG(CELT_NUMBER, decay, 64), END_4};
+    STATE_2, SIZED(counted_n, 1), READER_1, WRONG(GURTHAPEN_NUMBER, fs, 128), WRONG(GURTHAPEN_NUMBER, decay, 64), END_4};
 CALL(laplace_encode, L(state), L(bytes), g->z, g->fs, g->decay, L(counted)) = {
-    STATE_2, SIZED(counted_n, 1), WRITER_1, WRONG(CELT_NUMBER, z, 32768), WRONG(CELT_NUMBER, fs, 128), CLOSED_12, END_4};
+    STATE_2, SIZED(counted_n, 1), WRITER_1, WRONG(GURTHAPEN_NUMBER, z, 32768), WRONG(GURTHAPEN_NUMBER, fs, 128), CLOSED_12, END_4};
 CALL(decode_pulses, L(state), L(bytes), L(y), g->n, g->k, L(value)) = {
-    STATE_2, SIZED(y_n, CELT_ROOM), SIZED(value_n, 1), READER_1, WRONG(CELT_NUMBER, n, 177), WRONG(CELT_NUMBER, k, 129), WRONG(CELT_COUNT, k, 128), END_4};
-CALL(encode_pulses, L(state), L(bytes), L(y), g->n, g->k) = {STATE_2, SIZED(y_n, CELT_ROOM), WRITER_1, WRONG(CELT_NUMBER, n, 1), WRONG(CELT_NUMBER, k, 0),
-    WRONG(CELT_COUNT, k, 128), WRONG(CELT_SUM, y[15], 1), CLOSED_12, END_4};
-CALL(get_pulses, g->index, L(value)) = {SIZED(value_n, 1), WRONG(CELT_NUMBER, index, 41)};
+    STATE_2, SIZED(y_n, GURTHAPEN_ROOM), SIZED(value_n, 1), READER_1, WRONG(GURTHAPEN_NUMBER, n, 177), WRONG(GURTHAPEN_NUMBER, k, 129),
+    WRONG(GURTHAPEN_COUNT, k, 128), END_4};
+CALL(encode_pulses, L(state), L(bytes), L(y), g->n, g->k) = {STATE_2, SIZED(y_n, GURTHAPEN_ROOM), WRITER_1, WRONG(GURTHAPEN_NUMBER, n, 1),
+    WRONG(GURTHAPEN_NUMBER, k, 0), WRONG(GURTHAPEN_COUNT, k, 128), WRONG(GURTHAPEN_SUM, y[15], 1), CLOSED_12, END_4};
+CALL(get_pulses, g->index, L(value)) = {SIZED(value_n, 1), WRONG(GURTHAPEN_NUMBER, index, 41)};
 CALL(bits2pulses, g->band, g->cache_lm, g->bits, L(value)) = {
-    SIZED(value_n, 1), WRONG(CELT_NUMBER, bits, 81601), WRONG(CELT_NUMBER, band, 21), WRONG(CELT_NUMBER, cache_lm, 4)};
+    SIZED(value_n, 1), WRONG(GURTHAPEN_NUMBER, bits, 81601), WRONG(GURTHAPEN_NUMBER, band, 21), WRONG(GURTHAPEN_NUMBER, cache_lm, 4)};
 CALL(pulses2bits, g->band, g->cache_lm, g->row_index, L(value)) = {
-    SIZED(value_n, 1), WRONG(CELT_NUMBER, band, -1), WRONG(CELT_NUMBER, cache_lm, -2), WRONG(CELT_INDEX, row_index, 41)};
+    SIZED(value_n, 1), WRONG(GURTHAPEN_NUMBER, band, -1), WRONG(GURTHAPEN_NUMBER, cache_lm, -2), WRONG(GURTHAPEN_INDEX, row_index, 41)};
 #define ALLOC_1                                                                                                                            \
-    WRONG(CELT_NUMBER, c, 0), WRONG(CELT_NUMBER, lm, 4), WRONG(CELT_NUMBER, end, 22), WRONG(CELT_NUMBER, trim, 11), WRONG(CELT_NUMBER, total, 81601)
+    WRONG(GURTHAPEN_NUMBER, c, 0), WRONG(GURTHAPEN_NUMBER, lm, 4), WRONG(GURTHAPEN_NUMBER, end, 22), WRONG(GURTHAPEN_NUMBER, trim, 11),   \
+    WRONG(GURTHAPEN_NUMBER, total, 81601)
 CALL(compute_allocation_read, L(state), L(bytes), g->c, g->lm, g->start, g->end, g->trim, g->total, L(offsets), L(caps), L(pulses), L(fine),
-     L(priorities), L(shown)) = {SIZED(state_n, CELT_STATE), SIZED(offsets_n, CELT_BANDS), SIZED(caps_n, CELT_BANDS), SIZED(pulses_n, CELT_BANDS),
-    SIZED(fine_n, CELT_BANDS), SIZED(priorities_n, CELT_BANDS), SIZED(shown_n, CELT_SHOWN), ALLOC_1, WRONG(CELT_ENTRY, offsets[20], -1), END_4};
+     L(priorities), L(shown)) = {SIZED(state_n, GURTHAPEN_STATE), SIZED(offsets_n, GURTHAPEN_BANDS), SIZED(caps_n, GURTHAPEN_BANDS),
+    SIZED(pulses_n, GURTHAPEN_BANDS), SIZED(fine_n, GURTHAPEN_BANDS), SIZED(priorities_n, GURTHAPEN_BANDS), SIZED(shown_n, GURTHAPEN_SHOWN), ALLOC_1,
+    WRONG(GURTHAPEN_ENTRY, offsets[20], -1), END_4};
 CALL(compute_allocation_write, L(state), L(bytes), g->c, g->lm, g->start, g->end, g->trim, g->total, g->intensity, g->dual, g->previous,
-     g->bandwidth, L(offsets), L(caps), L(pulses), L(fine), L(priorities), L(shown)) = {SIZED(bytes_n, BYTES), SIZED(shown_n, CELT_SHOWN),
-    SIZED(offsets_n, CELT_BANDS), WRITER_1, WRONG(CELT_NUMBER, start, 19), WRONG(CELT_NUMBER, intensity, 20), WRONG(CELT_NUMBER, dual, 2),
-    WRONG(CELT_ENTRY, caps[0], 32768), WRONG(CELT_ENTRY, offsets[0], 81601), CLOSED_12, END_4};
-CALL(unquant_coarse_energy, L(state), L(bytes), L(energies), g->c, g->lm, g->start, g->end, g->intra) = {STATE_2, SIZED(energies_n, CELT_ENERGIES),
-    READER_1, WRONG(CELT_NUMBER, c, 3), WRONG(CELT_NUMBER, lm, -1), WRONG(CELT_NUMBER, start, -1), WRONG(CELT_NUMBER, intra, 2),
-    WRONG(CELT_ENTRY, energies[41], NAN), END_4};
+     g->bandwidth, L(offsets), L(caps), L(pulses), L(fine), L(priorities), L(shown)) = {SIZED(bytes_n, BYTES), SIZED(shown_n, GURTHAPEN_SHOWN),
+    SIZED(offsets_n, GURTHAPEN_BANDS), WRITER_1, WRONG(GURTHAPEN_NUMBER, start, 19), WRONG(GURTHAPEN_NUMBER, intensity, 20), WRONG(GURTHAPEN_NUMBER, dual, 2),
+    WRONG(GURTHAPEN_ENTRY, caps[0], 32768), WRONG(GURTHAPEN_ENTRY, offsets[0], 81601), CLOSED_12, END_4};
+CALL(unquant_coarse_energy, L(state), L(bytes), L(energies), g->c, g->lm, g->start, g->end, g->intra) = {STATE_2, SIZED(energies_n, GURTHAPEN_ENERGIES),
+    READER_1, WRONG(GURTHAPEN_NUMBER, c, 3), WRONG(GURTHAPEN_NUMBER, lm, -1), WRONG(GURTHAPEN_NUMBER, start, -1), WRONG(GURTHAPEN_NUMBER, intra, 2),
+    WRONG(GURTHAPEN_ENTRY, energies[41], NAN), END_4};
 CALL(unquant_energy_finalise, L(state), L(bytes), L(energies), g->c, g->start, g->end, L(fine), L(priorities), g->left) = {STATE_2,
-    SIZED(energies_n, CELT_ENERGIES), SIZED(fine_n, CELT_BANDS), SIZED(priorities_n, CELT_BANDS), READER_1, WRONG(CELT_NUMBER, c, INT32_MIN),
-    WRONG(CELT_NUMBER, end, 2), WRONG(CELT_ENTRY, energies[0], -INFINITY), WRONG(CELT_ENTRY, fine[20], 9), WRONG(CELT_ENTRY, priorities[0], 2), END_4};
+    SIZED(energies_n, GURTHAPEN_ENERGIES), SIZED(fine_n, GURTHAPEN_BANDS), SIZED(priorities_n, GURTHAPEN_BANDS), READER_1,
+    WRONG(GURTHAPEN_NUMBER, c, INT32_MIN), WRONG(GURTHAPEN_NUMBER, end, 2), WRONG(GURTHAPEN_ENTRY, energies[0], -INFINITY),
+    WRONG(GURTHAPEN_ENTRY, fine[20], 9), WRONG(GURTHAPEN_ENTRY, priorities[0], 2), END_4};
 CALL(alg_unquant, L(state), L(bytes), L(shape), g->places, g->count, g->spread, g->parts, g->gain, L(value)) = {STATE_2, SIZED(shape_n, N),
-    SIZED(value_n, 1), READER_1, WRONG(CELT_NUMBER, count, 129), WRONG(CELT_NUMBER, parts, 5), WRONG(CELT_NUMBER, spread, 4),
-    WRONG(CELT_ENTRY, gain, 1.0000001f), WRONG(CELT_COUNT, count, 128), WRONG(CELT_ROTATION, spread, 1), END_4};
-CALL(record_fresh, L(energies), L(next)) = {SIZED(energies_n, CELT_ENERGIES), SIZED(next_n, 1)};
-CALL(record_frame, L(energies), L(next), L(state), L(bytes), g->number, g->c, g->lm, g->start, g->end, g->intra) = {SIZED(energies_n, CELT_ENERGIES),
-    SIZED(next_n, 1), SIZED(state_n, CELT_STATE), SIZED(bytes_n, BYTES), READER_1, WRONG(CELT_NUMBER, intra, -1), WRONG(CELT_NUMBER, next[0], 4294967296),
-    WRONG(CELT_NUMBER, number, 4294967295), WRONG(CELT_ENTRY, energies[7], INFINITY), WRONG(CELT_BELOW_NEXT, number, 4), WRONG(CELT_ABOVE_NEXT, number, 6),
-    END_4};
-CALL(record_save, L(energies), g->next[0], L(saved), L(length)) = {SIZED(energies_n, CELT_ENERGIES), WRONG(CELT_LENGTH, saved_n, CELT_LINE - 1),
-    SIZED(length_n, 1), WRONG(CELT_NUMBER, next[0], 4294967296), WRONG(CELT_ENTRY, energies[20], NAN)};
+    SIZED(value_n, 1), READER_1, WRONG(GURTHAPEN_NUMBER, count, 129), WRONG(GURTHAPEN_NUMBER, parts, 5), WRONG(GURTHAPEN_NUMBER, spread, 4),
+    WRONG(GURTHAPEN_ENTRY, gain, 1.0000001f), WRONG(GURTHAPEN_COUNT, count, 128), WRONG(GURTHAPEN_ROTATION, spread, 1), END_4};
+CALL(record_fresh, L(energies), L(next)) = {SIZED(energies_n, GURTHAPEN_ENERGIES), SIZED(next_n, 1)};
+CALL(record_frame, L(energies), L(next), L(state), L(bytes), g->number, g->c, g->lm, g->start, g->end, g->intra) = {SIZED(energies_n, GURTHAPEN_ENERGIES),
+    SIZED(next_n, 1), SIZED(state_n, GURTHAPEN_STATE), SIZED(bytes_n, BYTES), READER_1, WRONG(GURTHAPEN_NUMBER, intra, -1),
+    WRONG(GURTHAPEN_NUMBER, next[0], 4294967296), WRONG(GURTHAPEN_NUMBER, number, 4294967295), WRONG(GURTHAPEN_ENTRY, energies[7], INFINITY),
+    WRONG(GURTHAPEN_BELOW_NEXT, number, 4), WRONG(GURTHAPEN_ABOVE_NEXT, number, 6), END_4};
+CALL(record_save, L(energies), g->next[0], L(saved), L(length)) = {SIZED(energies_n, GURTHAPEN_ENERGIES), WRONG(GURTHAPEN_LENGTH, saved_n, GURTHAPEN_LINE - 1),
+    SIZED(length_n, 1), WRONG(GURTHAPEN_NUMBER, next[0], 4294967296), WRONG(GURTHAPEN_ENTRY, energies[20], NAN)};
 CALL(record_restore, L(line), L(energies), L(next)) = {
-    SIZED(energies_n, CELT_ENERGIES), SIZED(next_n, 1), WRONG(CELT_NUMBER, line[0], 'F'), WRONG(CELT_NUMBER, line[2], '-'), WRONG(CELT_ENTRY, line[4], '7')};
-CALL(list, L(line), 1, L(out), L(length)) = {WRONG(CELT_LENGTH, out_n, CELT_LISTED - 1), SIZED(length_n, 1)};
+    SIZED(energies_n, GURTHAPEN_ENERGIES), SIZED(next_n, 1), WRONG(GURTHAPEN_NUMBER, line[0], 'F'), WRONG(GURTHAPEN_NUMBER, line[2], '-'),
+    WRONG(GURTHAPEN_ENTRY, line[4], '7')};
+CALL(list, L(line), 1, L(out), L(length)) = {WRONG(GURTHAPEN_LENGTH, out_n, GURTHAPEN_LISTED - 1), SIZED(length_n, 1)};
 /* what a call of the trip refuses is no refusal of the trip */
 CALL(round_trip, L(bytes), L(symbols), L(table), g->c, g->lm, g->start, g->end, g->trim, g->total, g->intensity, g->dual, g->previous, g->bandwidth,
-     L(offsets), L(caps), L(outcome)) = {SIZED(outcome_n, CELT_OUTCOME), WRONG(0, symbols[2], 1), WRONG(0, offsets_n, 0), WRONG(0, c, 9), WRONG(0, bytes_n, 0)};
+     L(offsets), L(caps), L(outcome)) = {SIZED(outcome_n, GURTHAPEN_OUTCOME), WRONG(0, symbols[2], 1), WRONG(0, offsets_n, 0), WRONG(0, c, 9),
+    WRONG(0, bytes_n, 0)};
 
 static const struct {
     const char *name;
@@ -165,18 +175,19 @@ static const struct {
     READS(list), READS(round_trip),
 };
 
-/* The calls that are handed a state: what a storage is refused with that no count of bytes can be. Where bytes are lent it is unlike their count; tell is lent none. */
+/* The calls that are handed a state: what a storage is refused with that no count of bytes can be. Where bytes are lent it is unlike their
+ * count; tell is lent none. */
 static const struct {
     const char *name;
     int writes;
     uint32_t (*call)(struct given *);
     uint32_t answer;
 } stored[] = {
-#define STORED(name, writes) {#name, writes, name, CELT_LENGTH}
-#define TOLD(name, writes) {#name, writes, name, CELT_NUMBER}
-    STORED(dec_bit_logp, 0), STORED(dec_icdf, 0), STORED(dec_uint, 0), STORED(dec_bits, 0), TOLD(dec_tell, 0), TOLD(dec_tell_frac, 0),
-    STORED(enc_bit_logp, 1), STORED(enc_icdf, 1), STORED(enc_uint, 1), STORED(enc_bits, 1), STORED(enc_close, 1), TOLD(enc_tell, 1),
-    TOLD(enc_tell_frac, 1), STORED(laplace_decode, 0), STORED(laplace_encode, 1), STORED(decode_pulses, 0), STORED(encode_pulses, 1),
+#define STORED(name, writes) {#name, writes, name, GURTHAPEN_LENGTH}
+#define TELLS(name, writes) {#name, writes, name, GURTHAPEN_NUMBER}
+    STORED(dec_bit_logp, 0), STORED(dec_icdf, 0), STORED(dec_uint, 0), STORED(dec_bits, 0), TELLS(dec_tell, 0), TELLS(dec_tell_frac, 0),
+    STORED(enc_bit_logp, 1), STORED(enc_icdf, 1), STORED(enc_uint, 1), STORED(enc_bits, 1), STORED(enc_close, 1), TELLS(enc_tell, 1),
+    TELLS(enc_tell_frac, 1), STORED(laplace_decode, 0), STORED(laplace_encode, 1), STORED(decode_pulses, 0), STORED(encode_pulses, 1),
     STORED(compute_allocation_read, 0), STORED(compute_allocation_write, 1), STORED(unquant_coarse_energy, 0),
     STORED(unquant_energy_finalise, 0), STORED(alg_unquant, 0), STORED(record_frame, 0),
 };
@@ -190,7 +201,7 @@ static void answers(const char *name, uint32_t (*call)(struct given *), struct g
     tried++;
     if (got != want || (got != 0 && memcmp(g, &before, sizeof before) != 0)) {
         failed++;
-        printf("%s: celt_%s answered %u, not %u, or changed something\n", __FILE__, name, got, want);
+        printf("%s: gurthapen_%s answered %u, not %u, or changed something\n", __FILE__, name, got, want);
     }
 }
 
@@ -223,7 +234,7 @@ void try_order(void) {
                 for (k = 0; k < 2; k++) {
                     memcpy(&g, &right, sizeof g);
                     memcpy((char *)&g + calls[i].wrong[j].place, &lent[k], sizeof lent[k]);
-                    answers(calls[i].name, calls[i].call, &g, CELT_LENGTH);
+                    answers(calls[i].name, calls[i].call, &g, GURTHAPEN_LENGTH);
                 }
             }
     }
@@ -235,7 +246,7 @@ void try_order(void) {
         for (j = 0; j < COUNT(storages); j++)
             for (k = 0; k < COUNT(lent); k++) {
                 good(&g, stored[i].writes);
-                g.state[CELT_STORAGE] = storages[j], g.bytes_n = lent[k];
+                g.state[GURTHAPEN_STORAGE] = storages[j], g.bytes_n = lent[k];
                 answers(stored[i].name, stored[i].call, &g, stored[i].answer);
             }
     }
@@ -244,10 +255,10 @@ void try_order(void) {
     good(&right, 0);
     memcpy(&g, &right, sizeof g);
     g.band = 0, g.cache_lm = -1;
-    answers("bits2pulses", bits2pulses, &g, CELT_NO_ROW);
-    answers("pulses2bits", pulses2bits, &g, CELT_NO_ROW);
+    answers("bits2pulses", bits2pulses, &g, GURTHAPEN_NO_ROW);
+    answers("pulses2bits", pulses2bits, &g, GURTHAPEN_NO_ROW);
     g.row_index = -1;
-    answers("pulses2bits", pulses2bits, &g, CELT_NO_ROW);
+    answers("pulses2bits", pulses2bits, &g, GURTHAPEN_NO_ROW);
     g.bits = -81601;
-    answers("bits2pulses", bits2pulses, &g, CELT_NUMBER);
+    answers("bits2pulses", bits2pulses, &g, GURTHAPEN_NUMBER);
 }

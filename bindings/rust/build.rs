@@ -1,25 +1,25 @@
-//! Has the Rattle kit prove the crate `celt` and write libcelt.a, and links that. Where CELT_LIBRARY names a folder, the libcelt.a in it, which
-//! `rt staticlib celt` wrote before, is linked instead.
+//! Has the Rattle kit prove the crate `gurthapen` and write libgurthapen.a, and links that. Where GURTHAPEN_LIBRARY names a folder, the
+//! libgurthapen.a in it, which `rt staticlib gurthapen` wrote before, is linked instead.
 
 use std::env;
 use std::path::{Path, PathBuf};
 use std::process::{exit, Command};
 
 fn stop(why: &str) -> ! {
-    eprintln!("celt: {why}");
+    eprintln!("gurthapen: {why}");
     exit(1)
 }
 
 /// The folder of the archive that the kit proves and writes here.
 fn proved(root: &Path) -> PathBuf {
-    match Command::new("rt").args(["staticlib", "celt"]).current_dir(root).output() {
+    match Command::new("rt").args(["staticlib", "gurthapen"]).current_dir(root).output() {
         Err(e) => stop(&format!(
-            "libcelt.a is proved and built by the Rattle kit, and its command `rt` cannot be run ({e}). Put the kit's bin folder on the PATH; \
-             the repository's README.md, \"Run and test\", says which kit"
+            "libgurthapen.a is proved and built by the Rattle kit, and its command `rt` cannot be run ({e}). Put the kit's bin folder on the PATH; \
+             the repository's README.md, \"Set-up\", says which kit"
         )),
         Ok(done) if !done.status.success() => {
             eprintln!("{}{}", String::from_utf8_lossy(&done.stdout), String::from_utf8_lossy(&done.stderr));
-            stop("`rt staticlib celt` failed, so there is nothing to link: what it said stands above")
+            stop("`rt staticlib gurthapen` failed, so there is nothing to link: what it said stands above")
         }
         Ok(_) => root.join("target/staticlib"),
     }
@@ -38,17 +38,17 @@ fn main() {
     println!("cargo:rerun-if-changed=build.rs");
     println!("cargo:rerun-if-changed={}", root.join("crates.txt").display());
     println!("cargo:rerun-if-changed={}", root.join("crates").display());
-    println!("cargo:rerun-if-env-changed=CELT_LIBRARY");
+    println!("cargo:rerun-if-env-changed=GURTHAPEN_LIBRARY");
 
-    let folder = match env::var_os("CELT_LIBRARY") {
+    let folder = match env::var_os("GURTHAPEN_LIBRARY") {
         Some(folder) => PathBuf::from(folder),
         None => proved(&root),
     };
-    let archive = folder.join("libcelt.a");
+    let archive = folder.join("libgurthapen.a");
     if !archive.is_file() {
         stop(&format!("there is no {}", archive.display()));
     }
     println!("cargo:rerun-if-changed={}", archive.display());
     println!("cargo:rustc-link-search=native={}", folder.display());
-    println!("cargo:rustc-link-lib=static=celt");
+    println!("cargo:rustc-link-lib=static=gurthapen");
 }

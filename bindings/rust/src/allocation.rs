@@ -18,7 +18,7 @@ pub struct Frame {
     pub caps: [i32; BANDS],
 }
 
-/// What an encoder is told beside that: with two channels, intensity start..end and dual stereo 0 or 1; the band count of the frame before
+/// What an encoder is given beside that: with two channels, intensity start..end and dual stereo 0 or 1; the band count of the frame before
 /// and the signal's bandwidth, any.
 #[derive(Clone, Copy, Debug, Default, PartialEq, Eq, Hash)]
 pub struct Wishes {

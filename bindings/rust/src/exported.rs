@@ -1,8 +1,8 @@
-//! The calls of libcelt.a, as bindings/c/celt.h has them: a slice crosses as its pointer and its length.
+//! The calls of libgurthapen.a, as bindings/c/gurthapen.h has them: a slice crosses as its pointer and its length.
 
 extern "C" {
-    pub fn celt_dec_new(state: *mut i64, state_n: usize, packet: *const u8, packet_n: usize) -> u32;
-    pub fn celt_dec_bit_logp(
+    pub fn gurthapen_dec_new(state: *mut i64, state_n: usize, packet: *const u8, packet_n: usize) -> u32;
+    pub fn gurthapen_dec_bit_logp(
         state: *mut i64,
         state_n: usize,
         packet: *const u8,
@@ -11,7 +11,7 @@ extern "C" {
         value: *mut u32,
         value_n: usize,
     ) -> u32;
-    pub fn celt_dec_icdf(
+    pub fn gurthapen_dec_icdf(
         state: *mut i64,
         state_n: usize,
         packet: *const u8,
@@ -22,7 +22,7 @@ extern "C" {
         value: *mut u32,
         value_n: usize,
     ) -> u32;
-    pub fn celt_dec_uint(
+    pub fn gurthapen_dec_uint(
         state: *mut i64,
         state_n: usize,
         packet: *const u8,
@@ -31,7 +31,7 @@ extern "C" {
         value: *mut u32,
         value_n: usize,
     ) -> u32;
-    pub fn celt_dec_bits(
+    pub fn gurthapen_dec_bits(
         state: *mut i64,
         state_n: usize,
         packet: *const u8,
@@ -40,11 +40,11 @@ extern "C" {
         value: *mut u32,
         value_n: usize,
     ) -> u32;
-    pub fn celt_dec_tell(state: *const i64, state_n: usize, value: *mut u32, value_n: usize) -> u32;
-    pub fn celt_dec_tell_frac(state: *const i64, state_n: usize, value: *mut u32, value_n: usize) -> u32;
-    pub fn celt_enc_new(state: *mut i64, state_n: usize, buf: *const u8, buf_n: usize) -> u32;
-    pub fn celt_enc_bit_logp(state: *mut i64, state_n: usize, buf: *mut u8, buf_n: usize, value: u32, logp: u32) -> u32;
-    pub fn celt_enc_icdf(
+    pub fn gurthapen_dec_tell(state: *const i64, state_n: usize, value: *mut u32, value_n: usize) -> u32;
+    pub fn gurthapen_dec_tell_frac(state: *const i64, state_n: usize, value: *mut u32, value_n: usize) -> u32;
+    pub fn gurthapen_enc_new(state: *mut i64, state_n: usize, buf: *const u8, buf_n: usize) -> u32;
+    pub fn gurthapen_enc_bit_logp(state: *mut i64, state_n: usize, buf: *mut u8, buf_n: usize, value: u32, logp: u32) -> u32;
+    pub fn gurthapen_enc_icdf(
         state: *mut i64,
         state_n: usize,
         buf: *mut u8,
@@ -54,12 +54,12 @@ extern "C" {
         table_n: usize,
         ftb: u32,
     ) -> u32;
-    pub fn celt_enc_uint(state: *mut i64, state_n: usize, buf: *mut u8, buf_n: usize, fl: u32, ft: u32) -> u32;
-    pub fn celt_enc_bits(state: *mut i64, state_n: usize, buf: *mut u8, buf_n: usize, v: u32, n: u32) -> u32;
-    pub fn celt_enc_close(state: *mut i64, state_n: usize, buf: *mut u8, buf_n: usize) -> u32;
-    pub fn celt_enc_tell(state: *const i64, state_n: usize, value: *mut u32, value_n: usize) -> u32;
-    pub fn celt_enc_tell_frac(state: *const i64, state_n: usize, value: *mut u32, value_n: usize) -> u32;
-    pub fn celt_laplace_decode(
+    pub fn gurthapen_enc_uint(state: *mut i64, state_n: usize, buf: *mut u8, buf_n: usize, fl: u32, ft: u32) -> u32;
+    pub fn gurthapen_enc_bits(state: *mut i64, state_n: usize, buf: *mut u8, buf_n: usize, v: u32, n: u32) -> u32;
+    pub fn gurthapen_enc_close(state: *mut i64, state_n: usize, buf: *mut u8, buf_n: usize) -> u32;
+    pub fn gurthapen_enc_tell(state: *const i64, state_n: usize, value: *mut u32, value_n: usize) -> u32;
+    pub fn gurthapen_enc_tell_frac(state: *const i64, state_n: usize, value: *mut u32, value_n: usize) -> u32;
+    pub fn gurthapen_laplace_decode(
         state: *mut i64,
         state_n: usize,
         packet: *const u8,
@@ -69,7 +69,7 @@ extern "C" {
         value: *mut i32,
         value_n: usize,
     ) -> u32;
-    pub fn celt_laplace_encode(
+    pub fn gurthapen_laplace_encode(
         state: *mut i64,
         state_n: usize,
         buf: *mut u8,
@@ -80,7 +80,7 @@ extern "C" {
         value: *mut i32,
         value_n: usize,
     ) -> u32;
-    pub fn celt_decode_pulses(
+    pub fn gurthapen_decode_pulses(
         state: *mut i64,
         state_n: usize,
         packet: *const u8,
@@ -92,7 +92,7 @@ extern "C" {
         energy: *mut u32,
         energy_n: usize,
     ) -> u32;
-    pub fn celt_encode_pulses(
+    pub fn gurthapen_encode_pulses(
         state: *mut i64,
         state_n: usize,
         buf: *mut u8,
@@ -102,10 +102,10 @@ extern "C" {
         n: u32,
         k: u32,
     ) -> u32;
-    pub fn celt_get_pulses(i: i32, value: *mut u32, value_n: usize) -> u32;
-    pub fn celt_bits2pulses(band: i32, lm: i32, bits: i32, value: *mut u32, value_n: usize) -> u32;
-    pub fn celt_pulses2bits(band: i32, lm: i32, pulses: i32, value: *mut u32, value_n: usize) -> u32;
-    pub fn celt_compute_allocation_read(
+    pub fn gurthapen_get_pulses(i: i32, value: *mut u32, value_n: usize) -> u32;
+    pub fn gurthapen_bits2pulses(band: i32, lm: i32, bits: i32, value: *mut u32, value_n: usize) -> u32;
+    pub fn gurthapen_pulses2bits(band: i32, lm: i32, pulses: i32, value: *mut u32, value_n: usize) -> u32;
+    pub fn gurthapen_compute_allocation_read(
         state: *mut i64,
         state_n: usize,
         packet: *const u8,
@@ -129,7 +129,7 @@ extern "C" {
         shown: *mut i32,
         shown_n: usize,
     ) -> u32;
-    pub fn celt_compute_allocation_write(
+    pub fn gurthapen_compute_allocation_write(
         state: *mut i64,
         state_n: usize,
         buf: *mut u8,
@@ -157,7 +157,7 @@ extern "C" {
         shown: *mut i32,
         shown_n: usize,
     ) -> u32;
-    pub fn celt_unquant_coarse_energy(
+    pub fn gurthapen_unquant_coarse_energy(
         state: *mut i64,
         state_n: usize,
         packet: *const u8,
@@ -170,7 +170,7 @@ extern "C" {
         end: i32,
         intra: i32,
     ) -> u32;
-    pub fn celt_unquant_energy_finalise(
+    pub fn gurthapen_unquant_energy_finalise(
         state: *mut i64,
         state_n: usize,
         packet: *const u8,
@@ -186,7 +186,7 @@ extern "C" {
         priorities_n: usize,
         left: i32,
     ) -> u32;
-    pub fn celt_alg_unquant(
+    pub fn gurthapen_alg_unquant(
         state: *mut i64,
         state_n: usize,
         packet: *const u8,
@@ -201,9 +201,9 @@ extern "C" {
         mask: *mut u32,
         mask_n: usize,
     ) -> u32;
-    pub fn celt_record_fresh(energies: *mut f32, energies_n: usize, next: *mut u64, next_n: usize) -> u32;
-    pub fn celt_record_order(next: u64, number: u64) -> u32;
-    pub fn celt_record_frame(
+    pub fn gurthapen_record_fresh(energies: *mut f32, energies_n: usize, next: *mut u64, next_n: usize) -> u32;
+    pub fn gurthapen_record_order(next: u64, number: u64) -> u32;
+    pub fn gurthapen_record_frame(
         energies: *mut f32,
         energies_n: usize,
         next: *mut u64,
@@ -219,7 +219,7 @@ extern "C" {
         end: i32,
         intra: i32,
     ) -> u32;
-    pub fn celt_record_save(
+    pub fn gurthapen_record_save(
         energies: *const f32,
         energies_n: usize,
         next: u64,
@@ -228,10 +228,24 @@ extern "C" {
         length: *mut usize,
         length_n: usize,
     ) -> u32;
-    pub fn celt_record_restore(line: *const u8, line_n: usize, energies: *mut f32, energies_n: usize, next: *mut u64, next_n: usize)
-        -> u32;
-    pub fn celt_list(line: *const u8, line_n: usize, number: u32, out: *mut u8, out_n: usize, length: *mut usize, length_n: usize) -> u32;
-    pub fn celt_round_trip(
+    pub fn gurthapen_record_restore(
+        line: *const u8,
+        line_n: usize,
+        energies: *mut f32,
+        energies_n: usize,
+        next: *mut u64,
+        next_n: usize,
+    ) -> u32;
+    pub fn gurthapen_list(
+        line: *const u8,
+        line_n: usize,
+        number: u32,
+        out: *mut u8,
+        out_n: usize,
+        length: *mut usize,
+        length_n: usize,
+    ) -> u32;
+    pub fn gurthapen_round_trip(
         bytes: *const u8,
         bytes_n: usize,
         symbols: *const u32,

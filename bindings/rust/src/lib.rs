@@ -7,18 +7,18 @@
 //! exported calls themselves, over slices of any length.
 //!
 //! ```
-//! # fn main() -> Result<(), celt::Refusal> {
+//! # fn main() -> Result<(), gurthapen::Refusal> {
 //! let mut bytes = [0; 10];
-//! let mut writer = celt::Writer::new(&mut bytes)?;
+//! let mut writer = gurthapen::Writer::new(&mut bytes)?;
 //! writer.uint(70_000, 100_000)?;
 //! writer.bits(5, 3)?;
 //! writer.close()?;
 //! assert!(!writer.error());
 //!
-//! let mut reader = celt::Reader::new(&bytes)?;
+//! let mut reader = gurthapen::Reader::new(&bytes)?;
 //! assert_eq!(reader.uint(100_000)?, 70_000);
 //! assert_eq!(reader.bits(3)?, 5);
-//! assert_eq!(reader.bits(26), Err(celt::Refusal::Number));
+//! assert_eq!(reader.bits(26), Err(gurthapen::Refusal::Number));
 //! # Ok(())
 //! # }
 //! ```

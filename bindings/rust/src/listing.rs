@@ -8,8 +8,8 @@ const ROOM: usize = 1200;
 /// X line.
 ///
 /// ```
-/// assert_eq!(celt::list(b"1\t0\t0\t1\t5\t64\t00", 1), "R\t1\t1\t0\t0\t0\nB\t0\t8\t7\t1\n");
-/// assert_eq!(celt::list(b"", 2), "X\t2\t1\n");
+/// assert_eq!(gurthapen::list(b"1\t0\t0\t1\t5\t64\t00", 1), "R\t1\t1\t0\t0\t0\nB\t0\t8\t7\t1\n");
+/// assert_eq!(gurthapen::list(b"", 2), "X\t2\t1\n");
 /// ```
 pub fn list(line: &[u8], number: u32) -> String {
     let mut out = [0; ROOM];

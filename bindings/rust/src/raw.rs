@@ -4,10 +4,10 @@
 //!
 //! ```
 //! let mut value = [0];
-//! assert_eq!(celt::raw::get_pulses(23, &mut value), 0);
+//! assert_eq!(gurthapen::raw::get_pulses(23, &mut value), 0);
 //! assert_eq!(value, [30]);
-//! assert_eq!(celt::raw::get_pulses(41, &mut value), 1);
-//! assert_eq!(celt::raw::get_pulses(23, &mut []), 2);
+//! assert_eq!(gurthapen::raw::get_pulses(41, &mut value), 1);
+//! assert_eq!(gurthapen::raw::get_pulses(23, &mut []), 2);
 //! assert_eq!(value, [30]);
 //! ```
 
@@ -20,13 +20,13 @@ use crate::exported;
 
 /// A new reader of a packet.
 pub fn dec_new(state: &mut [i64], packet: &[u8]) -> u32 {
-    unsafe { exported::celt_dec_new(state.as_mut_ptr(), state.len(), packet.as_ptr(), packet.len()) }
+    unsafe { exported::gurthapen_dec_new(state.as_mut_ptr(), state.len(), packet.as_ptr(), packet.len()) }
 }
 
 /// One bit that is 1 with a probability of 1 in 2^logp.
 pub fn dec_bit_logp(state: &mut [i64], packet: &[u8], logp: u32, value: &mut [u32]) -> u32 {
     unsafe {
-        exported::celt_dec_bit_logp(
+        exported::gurthapen_dec_bit_logp(
             state.as_mut_ptr(),
             state.len(),
             packet.as_ptr(),
@@ -41,7 +41,7 @@ pub fn dec_bit_logp(state: &mut [i64], packet: &[u8], logp: u32, value: &mut [u3
 /// A symbol of a table of 2^ftb places.
 pub fn dec_icdf(state: &mut [i64], packet: &[u8], table: &[u8], ftb: u32, value: &mut [u32]) -> u32 {
     unsafe {
-        exported::celt_dec_icdf(
+        exported::gurthapen_dec_icdf(
             state.as_mut_ptr(),
             state.len(),
             packet.as_ptr(),
@@ -58,7 +58,7 @@ pub fn dec_icdf(state: &mut [i64], packet: &[u8], table: &[u8], ftb: u32, value:
 /// A number below ft, all alike.
 pub fn dec_uint(state: &mut [i64], packet: &[u8], ft: u32, value: &mut [u32]) -> u32 {
     unsafe {
-        exported::celt_dec_uint(
+        exported::gurthapen_dec_uint(
             state.as_mut_ptr(),
             state.len(),
             packet.as_ptr(),
@@ -73,7 +73,7 @@ pub fn dec_uint(state: &mut [i64], packet: &[u8], ft: u32, value: &mut [u32]) ->
 /// n raw bits from the end of the packet.
 pub fn dec_bits(state: &mut [i64], packet: &[u8], n: u32, value: &mut [u32]) -> u32 {
     unsafe {
-        exported::celt_dec_bits(
+        exported::gurthapen_dec_bits(
             state.as_mut_ptr(),
             state.len(),
             packet.as_ptr(),
@@ -87,30 +87,30 @@ pub fn dec_bits(state: &mut [i64], packet: &[u8], n: u32, value: &mut [u32]) -> 
 
 /// How many bits a reader has used.
 pub fn dec_tell(state: &[i64], value: &mut [u32]) -> u32 {
-    unsafe { exported::celt_dec_tell(state.as_ptr(), state.len(), value.as_mut_ptr(), value.len()) }
+    unsafe { exported::gurthapen_dec_tell(state.as_ptr(), state.len(), value.as_mut_ptr(), value.len()) }
 }
 
 /// How many eighths of a bit a reader has used.
 pub fn dec_tell_frac(state: &[i64], value: &mut [u32]) -> u32 {
-    unsafe { exported::celt_dec_tell_frac(state.as_ptr(), state.len(), value.as_mut_ptr(), value.len()) }
+    unsafe { exported::gurthapen_dec_tell_frac(state.as_ptr(), state.len(), value.as_mut_ptr(), value.len()) }
 }
 
 // ---- Writing
 
 /// A new writer over the bytes.
 pub fn enc_new(state: &mut [i64], buf: &[u8]) -> u32 {
-    unsafe { exported::celt_enc_new(state.as_mut_ptr(), state.len(), buf.as_ptr(), buf.len()) }
+    unsafe { exported::gurthapen_enc_new(state.as_mut_ptr(), state.len(), buf.as_ptr(), buf.len()) }
 }
 
 /// One bit, which is 1 in one of 2^logp places.
 pub fn enc_bit_logp(state: &mut [i64], buf: &mut [u8], value: u32, logp: u32) -> u32 {
-    unsafe { exported::celt_enc_bit_logp(state.as_mut_ptr(), state.len(), buf.as_mut_ptr(), buf.len(), value, logp) }
+    unsafe { exported::gurthapen_enc_bit_logp(state.as_mut_ptr(), state.len(), buf.as_mut_ptr(), buf.len(), value, logp) }
 }
 
 /// The symbol s of a table of 2^ftb places.
 pub fn enc_icdf(state: &mut [i64], buf: &mut [u8], s: u32, table: &[u8], ftb: u32) -> u32 {
     unsafe {
-        exported::celt_enc_icdf(
+        exported::gurthapen_enc_icdf(
             state.as_mut_ptr(),
             state.len(),
             buf.as_mut_ptr(),
@@ -125,27 +125,27 @@ pub fn enc_icdf(state: &mut [i64], buf: &mut [u8], s: u32, table: &[u8], ftb: u3
 
 /// A number fl below ft.
 pub fn enc_uint(state: &mut [i64], buf: &mut [u8], fl: u32, ft: u32) -> u32 {
-    unsafe { exported::celt_enc_uint(state.as_mut_ptr(), state.len(), buf.as_mut_ptr(), buf.len(), fl, ft) }
+    unsafe { exported::gurthapen_enc_uint(state.as_mut_ptr(), state.len(), buf.as_mut_ptr(), buf.len(), fl, ft) }
 }
 
 /// n raw bits of v.
 pub fn enc_bits(state: &mut [i64], buf: &mut [u8], v: u32, n: u32) -> u32 {
-    unsafe { exported::celt_enc_bits(state.as_mut_ptr(), state.len(), buf.as_mut_ptr(), buf.len(), v, n) }
+    unsafe { exported::gurthapen_enc_bits(state.as_mut_ptr(), state.len(), buf.as_mut_ptr(), buf.len(), v, n) }
 }
 
 /// The last bytes; nothing may be written after it.
 pub fn enc_close(state: &mut [i64], buf: &mut [u8]) -> u32 {
-    unsafe { exported::celt_enc_close(state.as_mut_ptr(), state.len(), buf.as_mut_ptr(), buf.len()) }
+    unsafe { exported::gurthapen_enc_close(state.as_mut_ptr(), state.len(), buf.as_mut_ptr(), buf.len()) }
 }
 
 /// How many bits a writer has used.
 pub fn enc_tell(state: &[i64], value: &mut [u32]) -> u32 {
-    unsafe { exported::celt_enc_tell(state.as_ptr(), state.len(), value.as_mut_ptr(), value.len()) }
+    unsafe { exported::gurthapen_enc_tell(state.as_ptr(), state.len(), value.as_mut_ptr(), value.len()) }
 }
 
 /// How many eighths of a bit a writer has used.
 pub fn enc_tell_frac(state: &[i64], value: &mut [u32]) -> u32 {
-    unsafe { exported::celt_enc_tell_frac(state.as_ptr(), state.len(), value.as_mut_ptr(), value.len()) }
+    unsafe { exported::gurthapen_enc_tell_frac(state.as_ptr(), state.len(), value.as_mut_ptr(), value.len()) }
 }
 
 // ---- Laplace values
@@ -153,7 +153,7 @@ pub fn enc_tell_frac(state: &[i64], value: &mut [u32]) -> u32 {
 /// A Laplace value of the pair fs and decay.
 pub fn laplace_decode(state: &mut [i64], packet: &[u8], fs: u32, decay: u32, value: &mut [i32]) -> u32 {
     unsafe {
-        exported::celt_laplace_decode(
+        exported::gurthapen_laplace_decode(
             state.as_mut_ptr(),
             state.len(),
             packet.as_ptr(),
@@ -169,7 +169,7 @@ pub fn laplace_decode(state: &mut [i64], packet: &[u8], fs: u32, decay: u32, val
 /// The Laplace value z of the pair fs and decay; what counts as written goes into value.
 pub fn laplace_encode(state: &mut [i64], buf: &mut [u8], z: i32, fs: u32, decay: u32, value: &mut [i32]) -> u32 {
     unsafe {
-        exported::celt_laplace_encode(
+        exported::gurthapen_laplace_encode(
             state.as_mut_ptr(),
             state.len(),
             buf.as_mut_ptr(),
@@ -188,7 +188,7 @@ pub fn laplace_encode(state: &mut [i64], buf: &mut [u8], z: i32, fs: u32, decay:
 /// A vector of n places and k pulses into the first n of 176 places.
 pub fn decode_pulses(state: &mut [i64], packet: &[u8], y: &mut [i32], n: u32, k: u32, energy: &mut [u32]) -> u32 {
     unsafe {
-        exported::celt_decode_pulses(
+        exported::gurthapen_decode_pulses(
             state.as_mut_ptr(),
             state.len(),
             packet.as_ptr(),
@@ -206,7 +206,7 @@ pub fn decode_pulses(state: &mut [i64], packet: &[u8], y: &mut [i32], n: u32, k:
 /// The vector of k pulses that stands in the first n of 176 places.
 pub fn encode_pulses(state: &mut [i64], buf: &mut [u8], y: &[i32], n: u32, k: u32) -> u32 {
     unsafe {
-        exported::celt_encode_pulses(
+        exported::gurthapen_encode_pulses(
             state.as_mut_ptr(),
             state.len(),
             buf.as_mut_ptr(),
@@ -223,17 +223,17 @@ pub fn encode_pulses(state: &mut [i64], buf: &mut [u8], y: &[i32], n: u32, k: u3
 
 /// The number of pulses that an index of the cache stands for.
 pub fn get_pulses(i: i32, value: &mut [u32]) -> u32 {
-    unsafe { exported::celt_get_pulses(i, value.as_mut_ptr(), value.len()) }
+    unsafe { exported::gurthapen_get_pulses(i, value.as_mut_ptr(), value.len()) }
 }
 
 /// The index of pulses whose cost is nearest to the bits.
 pub fn bits2pulses(band: i32, lm: i32, bits: i32, value: &mut [u32]) -> u32 {
-    unsafe { exported::celt_bits2pulses(band, lm, bits, value.as_mut_ptr(), value.len()) }
+    unsafe { exported::gurthapen_bits2pulses(band, lm, bits, value.as_mut_ptr(), value.len()) }
 }
 
 /// What an index of pulses costs.
 pub fn pulses2bits(band: i32, lm: i32, pulses: i32, value: &mut [u32]) -> u32 {
-    unsafe { exported::celt_pulses2bits(band, lm, pulses, value.as_mut_ptr(), value.len()) }
+    unsafe { exported::gurthapen_pulses2bits(band, lm, pulses, value.as_mut_ptr(), value.len()) }
 }
 
 // ---- Bit allocation
@@ -258,7 +258,7 @@ pub fn compute_allocation_read(
     shown: &mut [i32],
 ) -> u32 {
     unsafe {
-        exported::celt_compute_allocation_read(
+        exported::gurthapen_compute_allocation_read(
             state.as_mut_ptr(),
             state.len(),
             packet.as_ptr(),
@@ -308,7 +308,7 @@ pub fn compute_allocation_write(
     shown: &mut [i32],
 ) -> u32 {
     unsafe {
-        exported::celt_compute_allocation_write(
+        exported::gurthapen_compute_allocation_write(
             state.as_mut_ptr(),
             state.len(),
             buf.as_mut_ptr(),
@@ -354,7 +354,7 @@ pub fn unquant_coarse_energy(
     intra: i32,
 ) -> u32 {
     unsafe {
-        exported::celt_unquant_coarse_energy(
+        exported::gurthapen_unquant_coarse_energy(
             state.as_mut_ptr(),
             state.len(),
             packet.as_ptr(),
@@ -384,7 +384,7 @@ pub fn unquant_energy_finalise(
     left: i32,
 ) -> u32 {
     unsafe {
-        exported::celt_unquant_energy_finalise(
+        exported::gurthapen_unquant_energy_finalise(
             state.as_mut_ptr(),
             state.len(),
             packet.as_ptr(),
@@ -419,7 +419,7 @@ pub fn alg_unquant(
     mask: &mut [u32],
 ) -> u32 {
     unsafe {
-        exported::celt_alg_unquant(
+        exported::gurthapen_alg_unquant(
             state.as_mut_ptr(),
             state.len(),
             packet.as_ptr(),
@@ -441,12 +441,12 @@ pub fn alg_unquant(
 
 /// The record before the first frame.
 pub fn record_fresh(energies: &mut [f32], next: &mut [u64]) -> u32 {
-    unsafe { exported::celt_record_fresh(energies.as_mut_ptr(), energies.len(), next.as_mut_ptr(), next.len()) }
+    unsafe { exported::gurthapen_record_fresh(energies.as_mut_ptr(), energies.len(), next.as_mut_ptr(), next.len()) }
 }
 
 /// A frame's number against the next one: 0, 10 or 11; 1 where either is outside its domain.
 pub fn record_order(next: u64, number: u64) -> u32 {
-    unsafe { exported::celt_record_order(next, number) }
+    unsafe { exported::gurthapen_record_order(next, number) }
 }
 
 /// Frame `number`, whose coarse energies the reader stands before.
@@ -464,7 +464,7 @@ pub fn record_frame(
     intra: i32,
 ) -> u32 {
     unsafe {
-        exported::celt_record_frame(
+        exported::gurthapen_record_frame(
             energies.as_mut_ptr(),
             energies.len(),
             next.as_mut_ptr(),
@@ -486,7 +486,7 @@ pub fn record_frame(
 /// The record's line, without a line feed, to the front of a buffer of 390 bytes or more, and its length.
 pub fn record_save(energies: &[f32], next: u64, buf: &mut [u8], length: &mut [usize]) -> u32 {
     unsafe {
-        exported::celt_record_save(
+        exported::gurthapen_record_save(
             energies.as_ptr(),
             energies.len(),
             next,
@@ -501,7 +501,7 @@ pub fn record_save(energies: &[f32], next: u64, buf: &mut [u8], length: &mut [us
 /// The record of a line without its line feed.
 pub fn record_restore(line: &[u8], energies: &mut [f32], next: &mut [u64]) -> u32 {
     unsafe {
-        exported::celt_record_restore(
+        exported::gurthapen_record_restore(
             line.as_ptr(),
             line.len(),
             energies.as_mut_ptr(),
@@ -517,7 +517,7 @@ pub fn record_restore(line: &[u8], energies: &mut [f32], next: &mut [u64]) -> u3
 /// The lister's answer to a line without its line feed, to the front of a buffer of 1,200 bytes or more, and its length.
 pub fn list(line: &[u8], number: u32, out: &mut [u8], length: &mut [usize]) -> u32 {
     unsafe {
-        exported::celt_list(
+        exported::gurthapen_list(
             line.as_ptr(),
             line.len(),
             number,
@@ -532,8 +532,8 @@ pub fn list(line: &[u8], number: u32, out: &mut [u8], length: &mut [usize]) -> u
 // ---- The round trip
 
 /// Writes symbols, five numbers each, and an allocation with a new writer over a copy of the bytes, closes, reads back and compares; how it ended goes
-/// into outcome, four numbers (bindings/c/celt.h says which). Refused, with the outcome as it was: 2 where the symbols are not five numbers each or the outcome has
-/// not four, 1 where a kind is above 4 or a table has entries past the end of tables.
+/// into outcome, four numbers (bindings/c/gurthapen.h says which). Refused, with the outcome as it was: 2 where the symbols are not five numbers
+/// each or the outcome has not four, 1 where a kind is above 4 or a table has entries past the end of tables.
 #[allow(clippy::too_many_arguments)]
 pub fn round_trip(
     bytes: &[u8],
@@ -554,7 +554,7 @@ pub fn round_trip(
     outcome: &mut [u64],
 ) -> u32 {
     unsafe {
-        exported::celt_round_trip(
+        exported::gurthapen_round_trip(
             bytes.as_ptr(),
             bytes.len(),
             symbols.as_ptr(),

@@ -3,14 +3,14 @@ use crate::{raw, Allocation, Coarse, Frame, LastBits, Refusal, Shape, State, ENE
 /// A reader of a packet. A refused call leaves it as it was.
 ///
 /// ```
-/// # fn main() -> Result<(), celt::Refusal> {
+/// # fn main() -> Result<(), gurthapen::Refusal> {
 /// let packet = [0x5a, 0xc3, 0x01];
-/// let mut reader = celt::Reader::new(&packet)?;
+/// let mut reader = gurthapen::Reader::new(&packet)?;
 /// assert_eq!(reader.tell()?, 1);
 /// let bit = reader.bit_logp(1)?;
 /// let symbol = reader.icdf(&[2, 1, 0], 2)?;
 /// assert!(symbol < 3);
-/// assert_eq!(reader.icdf(&[2, 2, 0], 2), Err(celt::Refusal::Entry));
+/// assert_eq!(reader.icdf(&[2, 2, 0], 2), Err(gurthapen::Refusal::Entry));
 /// # let _ = bit;
 /// # Ok(())
 /// # }
@@ -32,16 +32,16 @@ impl<'a> Reader<'a> {
     /// A reader that goes on where another stood. Whether the state is good is checked by each call.
     ///
     /// ```
-    /// # fn main() -> Result<(), celt::Refusal> {
+    /// # fn main() -> Result<(), gurthapen::Refusal> {
     /// let packet = [1, 2, 3];
-    /// let mut one = celt::Reader::new(&packet)?;
+    /// let mut one = gurthapen::Reader::new(&packet)?;
     /// one.uint(1000)?;
-    /// let mut other = celt::Reader::from_state(&packet, one.state());
+    /// let mut other = gurthapen::Reader::from_state(&packet, one.state());
     /// assert_eq!(one.bits(7)?, other.bits(7)?);
     ///
     /// let mut damaged = one.state();
-    /// damaged.0[celt::State::RNG] = -1;
-    /// assert_eq!(celt::Reader::from_state(&packet, damaged).bits(7), Err(celt::Refusal::Number));
+    /// damaged.0[gurthapen::State::RNG] = -1;
+    /// assert_eq!(gurthapen::Reader::from_state(&packet, damaged).bits(7), Err(gurthapen::Refusal::Number));
     /// # Ok(())
     /// # }
     /// ```
@@ -109,11 +109,11 @@ impl<'a> Reader<'a> {
     /// Reads an allocation into `into`, whose bands outside start..end stay as they are.
     ///
     /// ```
-    /// # fn main() -> Result<(), celt::Refusal> {
-    /// let mut frame = celt::Frame { channels: 1, lm: 0, start: 0, end: 1, trim: 5, total: 71, ..Default::default() };
+    /// # fn main() -> Result<(), gurthapen::Refusal> {
+    /// let mut frame = gurthapen::Frame { channels: 1, lm: 0, start: 0, end: 1, trim: 5, total: 71, ..Default::default() };
     /// frame.caps[0] = 72;
-    /// let mut into = celt::Allocation::default();
-    /// celt::Reader::new(&[0])?.allocation(&frame, &mut into)?;
+    /// let mut into = gurthapen::Allocation::default();
+    /// gurthapen::Reader::new(&[0])?.allocation(&frame, &mut into)?;
     /// assert_eq!((into.pulses[0], into.fine[0], into.priorities[0], into.balance), (8, 7, 0, 7));
     /// # Ok(())
     /// # }
@@ -144,14 +144,14 @@ impl<'a> Reader<'a> {
     /// are.
     ///
     /// ```
-    /// # fn main() -> Result<(), celt::Refusal> {
-    /// let coarse = celt::Coarse { channels: 1, lm: 0, start: 0, end: 1, intra: true };
+    /// # fn main() -> Result<(), gurthapen::Refusal> {
+    /// let coarse = gurthapen::Coarse { channels: 1, lm: 0, start: 0, end: 1, intra: true };
     /// let mut energies = [0.0; 42];
-    /// celt::Reader::new(&[])?.coarse(&mut energies, &coarse)?;
+    /// gurthapen::Reader::new(&[])?.coarse(&mut energies, &coarse)?;
     /// assert_eq!(energies[..2], [-1.0, 0.0]);
     ///
     /// energies[41] = f32::INFINITY;
-    /// assert_eq!(celt::Reader::new(&[])?.coarse(&mut energies, &coarse), Err(celt::Refusal::Entry));
+    /// assert_eq!(gurthapen::Reader::new(&[])?.coarse(&mut energies, &coarse), Err(gurthapen::Refusal::Entry));
     /// # Ok(())
     /// # }
     /// ```
@@ -171,15 +171,15 @@ impl<'a> Reader<'a> {
     /// The bits left over at the end of a frame, one for each channel of a band, those of priority 0 first.
     ///
     /// ```
-    /// # fn main() -> Result<(), celt::Refusal> {
-    /// let mut last = celt::LastBits { channels: 1, start: 0, end: 1, left: 1, ..Default::default() };
+    /// # fn main() -> Result<(), gurthapen::Refusal> {
+    /// let mut last = gurthapen::LastBits { channels: 1, start: 0, end: 1, left: 1, ..Default::default() };
     /// last.fine[0] = 7;
     /// let mut energies = [0.0; 42];
-    /// celt::Reader::new(&[1])?.finalise(&mut energies, &last)?;
+    /// gurthapen::Reader::new(&[1])?.finalise(&mut energies, &last)?;
     /// assert_eq!(energies[0], 1.0 / 512.0);
     ///
     /// last.fine[0] = 9;
-    /// assert_eq!(celt::Reader::new(&[1])?.finalise(&mut energies, &last), Err(celt::Refusal::Entry));
+    /// assert_eq!(gurthapen::Reader::new(&[1])?.finalise(&mut energies, &last), Err(gurthapen::Refusal::Entry));
     /// # Ok(())
     /// # }
     /// ```
@@ -200,20 +200,20 @@ impl<'a> Reader<'a> {
     /// The shape of a vector of as many places as `into` has, 2..176; gives the mask of the parts that hold a pulse.
     ///
     /// ```
-    /// # fn main() -> Result<(), celt::Refusal> {
+    /// # fn main() -> Result<(), gurthapen::Refusal> {
     /// let mut y = [0; 176];
     /// y[..4].copy_from_slice(&[1, -1, 1, 1]);
     /// let mut bytes = [0; 8];
-    /// let mut writer = celt::Writer::new(&mut bytes)?;
+    /// let mut writer = gurthapen::Writer::new(&mut bytes)?;
     /// writer.pulses(&y, 4, 4)?;
     /// writer.close()?;
     ///
     /// let mut into = [0.0; 4];
-    /// let mask = celt::Reader::new(&bytes)?.shape(&mut into, &celt::Shape { k: 4, spread: 0, b: 2, gain: 1.0 })?;
+    /// let mask = gurthapen::Reader::new(&bytes)?.shape(&mut into, &gurthapen::Shape { k: 4, spread: 0, b: 2, gain: 1.0 })?;
     /// assert_eq!((into, mask), ([0.5, -0.5, 0.5, 0.5], 3));
     ///
-    /// let turned = celt::Shape { k: 1, spread: 1, b: 2, gain: 1.0 };
-    /// assert_eq!(celt::Reader::new(&bytes)?.shape(&mut into, &turned), Err(celt::Refusal::Rotation));
+    /// let turned = gurthapen::Shape { k: 1, spread: 1, b: 2, gain: 1.0 };
+    /// assert_eq!(gurthapen::Reader::new(&bytes)?.shape(&mut into, &turned), Err(gurthapen::Refusal::Rotation));
     /// # Ok(())
     /// # }
     /// ```

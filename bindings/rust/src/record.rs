@@ -7,17 +7,17 @@ const LINE: usize = 390;
 /// call leaves the record and the reader as they were.
 ///
 /// ```
-/// # fn main() -> Result<(), celt::Refusal> {
+/// # fn main() -> Result<(), gurthapen::Refusal> {
 /// let packet = [0x5a; 20];
-/// let coarse = celt::Coarse { channels: 2, lm: 3, start: 0, end: 21, intra: true };
-/// let mut record = celt::Record::fresh();
-/// record.frame(&mut celt::Reader::new(&packet)?, 0, &coarse)?;
+/// let coarse = gurthapen::Coarse { channels: 2, lm: 3, start: 0, end: 21, intra: true };
+/// let mut record = gurthapen::Record::fresh();
+/// record.frame(&mut gurthapen::Reader::new(&packet)?, 0, &coarse)?;
 /// assert_eq!(record.next(), 1);
 ///
 /// // the same frame once more, and one that leaves a gap
-/// let mut reader = celt::Reader::new(&packet)?;
-/// assert_eq!(record.frame(&mut reader, 0, &coarse), Err(celt::Refusal::BelowNext));
-/// assert_eq!(record.frame(&mut reader, 2, &coarse), Err(celt::Refusal::AboveNext));
+/// let mut reader = gurthapen::Reader::new(&packet)?;
+/// assert_eq!(record.frame(&mut reader, 0, &coarse), Err(gurthapen::Refusal::BelowNext));
+/// assert_eq!(record.frame(&mut reader, 2, &coarse), Err(gurthapen::Refusal::AboveNext));
 /// assert_eq!(record.next(), 1);
 /// # Ok(())
 /// # }
@@ -41,10 +41,10 @@ impl Record {
     /// at most 4,294,967,295.
     ///
     /// ```
-    /// let record = celt::Record::from_parts([f32::NAN; 42], 0);
-    /// assert_eq!(record.save(), Err(celt::Refusal::Entry));
-    /// let record = celt::Record::from_parts([0.0; 42], 4_294_967_296);
-    /// assert_eq!(record.save(), Err(celt::Refusal::Number));
+    /// let record = gurthapen::Record::from_parts([f32::NAN; 42], 0);
+    /// assert_eq!(record.save(), Err(gurthapen::Refusal::Entry));
+    /// let record = gurthapen::Record::from_parts([0.0; 42], 4_294_967_296);
+    /// assert_eq!(record.save(), Err(gurthapen::Refusal::Number));
     /// ```
     pub fn from_parts(energies: [f32; ENERGIES], next: u64) -> Self {
         Record { energies, next }
@@ -64,13 +64,13 @@ impl Record {
     /// domain, that is the refusal, as it is of a frame.
     ///
     /// ```
-    /// let record = celt::Record::from_parts([0.0; 42], 7);
-    /// assert_eq!(record.order(6), Err(celt::Refusal::BelowNext));
+    /// let record = gurthapen::Record::from_parts([0.0; 42], 7);
+    /// assert_eq!(record.order(6), Err(gurthapen::Refusal::BelowNext));
     /// assert_eq!(record.order(7), Ok(()));
-    /// assert_eq!(record.order(8), Err(celt::Refusal::AboveNext));
-    /// assert_eq!(record.order(4_294_967_295), Err(celt::Refusal::Number));
-    /// let record = celt::Record::from_parts([0.0; 42], 4_294_967_296);
-    /// assert_eq!(record.order(5), Err(celt::Refusal::Number));
+    /// assert_eq!(record.order(8), Err(gurthapen::Refusal::AboveNext));
+    /// assert_eq!(record.order(4_294_967_295), Err(gurthapen::Refusal::Number));
+    /// let record = gurthapen::Record::from_parts([0.0; 42], 4_294_967_296);
+    /// assert_eq!(record.order(5), Err(gurthapen::Refusal::Number));
     /// ```
     pub fn order(&self, number: u64) -> Result<(), Refusal> {
         Refusal::check(raw::record_order(self.next, number))
@@ -100,14 +100,14 @@ impl Record {
     /// The record's line, without a line feed.
     ///
     /// ```
-    /// # fn main() -> Result<(), celt::Refusal> {
+    /// # fn main() -> Result<(), gurthapen::Refusal> {
     /// let mut energies = [0.0; 42];
     /// energies[0] = -0.0;
     /// energies[1] = 1.5;
-    /// let line = celt::Record::from_parts(energies, 17).save()?;
+    /// let line = gurthapen::Record::from_parts(energies, 17).save()?;
     /// assert!(line.starts_with("E\t17\t80000000\t3fc00000\t00000000\t"));
     ///
-    /// let restored = celt::Record::restore(line.as_bytes())?;
+    /// let restored = gurthapen::Record::restore(line.as_bytes())?;
     /// assert_eq!(restored.next(), 17);
     /// assert_eq!(restored.energies().map(f32::to_bits), energies.map(f32::to_bits));
     /// # Ok(())
@@ -124,9 +124,9 @@ impl Record {
     ///
     /// ```
     /// let line = format!("Q\t3\t-384{}", "\t0".repeat(41));
-    /// let record = celt::Record::restore(line.as_bytes()).unwrap();
+    /// let record = gurthapen::Record::restore(line.as_bytes()).unwrap();
     /// assert_eq!((record.next(), record.energies()[0]), (3, -1.5));
-    /// assert_eq!(celt::Record::restore(b"E\t3"), Err(celt::Refusal::Number));
+    /// assert_eq!(gurthapen::Record::restore(b"E\t3"), Err(gurthapen::Refusal::Number));
     /// ```
     pub fn restore(line: &[u8]) -> Result<Self, Refusal> {
         let mut energies = [0.0; ENERGIES];
@@ -138,5 +138,5 @@ impl Record {
 
 /// Bytes of ASCII as text.
 pub(crate) fn text(bytes: &[u8]) -> String {
-    String::from_utf8(bytes.to_vec()).expect("libcelt.a writes ASCII only")
+    String::from_utf8(bytes.to_vec()).expect("libgurthapen.a writes ASCII only")
 }

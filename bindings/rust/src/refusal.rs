@@ -4,12 +4,12 @@ use std::fmt;
 /// Why a call was refused. Of several reasons that apply the first is given, in the order of this list; the call then changed nothing.
 ///
 /// ```
-/// let mut record = celt::Record::fresh();
+/// let mut record = gurthapen::Record::fresh();
 /// let packet = [0x5a; 20];
-/// let mut reader = celt::Reader::new(&packet).unwrap();
-/// let coarse = celt::Coarse { channels: 2, lm: 3, start: 0, end: 21, intra: true };
+/// let mut reader = gurthapen::Reader::new(&packet).unwrap();
+/// let coarse = gurthapen::Coarse { channels: 2, lm: 3, start: 0, end: 21, intra: true };
 /// let refusal = record.frame(&mut reader, 1, &coarse).unwrap_err();
-/// assert_eq!(refusal, celt::Refusal::AboveNext);
+/// assert_eq!(refusal, gurthapen::Refusal::AboveNext);
 /// assert_eq!(refusal.to_string(), "11: the frame number is above the record's next number");
 /// ```
 #[derive(Clone, Copy, Debug, PartialEq, Eq, Hash)]
@@ -36,7 +36,7 @@ pub enum Refusal {
     AboveNext,
     /// 12: the writer was closed before.
     Closed,
-    /// 4: more than 8 * storage + 32 bits were told before the call.
+    /// 4: tell was above 8 * storage + 32 before the call.
     PastEnd,
 }
 
@@ -59,7 +59,7 @@ impl Refusal {
     /// The number that the exported call answers.
     ///
     /// ```
-    /// assert_eq!(celt::Refusal::Closed.number(), 12);
+    /// assert_eq!(gurthapen::Refusal::Closed.number(), 12);
     /// ```
     pub fn number(self) -> u32 {
         match self {
@@ -85,7 +85,7 @@ impl Refusal {
         }
         match ALL.iter().find(|r| r.number() == answer) {
             Some(&refusal) => Err(refusal),
-            None => unreachable!("libcelt.a answered {answer}, which is no number of a refusal"),
+            None => unreachable!("libgurthapen.a answered {answer}, which is no number of a refusal"),
         }
     }
 }
@@ -96,7 +96,7 @@ impl fmt::Display for Refusal {
             Refusal::Number => "1: a number that is outside its domain, or a malformed line",
             Refusal::Length => "2: a list or buffer that is lent has a wrong length",
             Refusal::Entry => "3: an entry of a list, an energy or the gain is out of range",
-            Refusal::PastEnd => "4: more than 8 * storage + 32 bits were told before the call",
+            Refusal::PastEnd => "4: tell was above 8 * storage + 32 before the call",
             Refusal::NoRow => "5: the pulse cache has no row for this band and LM",
             Refusal::Index => "6: the row of the band and LM has no such index of pulses",
             Refusal::Count => "7: V(N,K), how many vectors there are, does not fit 32 bits",

@@ -68,16 +68,16 @@ impl Outcome {
             (2, 2) => Outcome::Refused(Call::Allocation, refusal()),
             (2, 3) => Outcome::Refused(Call::Close, refusal()),
             (3, _) => Outcome::Disagreed,
-            _ => unreachable!("libcelt.a answered {how}, {by}, which is no outcome"),
+            _ => unreachable!("libgurthapen.a answered {how}, {by}, which is no outcome"),
         }
     }
 }
 
-/// Writes the symbols and then the allocation with a new writer over a copy of the bytes, closes, reads all back and compares: each value, what is
-/// told after each symbol, the allocation's numbers and lists.
+/// Writes the symbols and then the allocation with a new writer over a copy of the bytes, closes, reads all back and compares: each value, tell
+/// after each symbol, the allocation's numbers and lists.
 ///
 /// ```
-/// use celt::{round_trip, Call, Frame, Outcome, Refusal, Symbol, Wishes};
+/// use gurthapen::{round_trip, Call, Frame, Outcome, Refusal, Symbol, Wishes};
 ///
 /// let frame = Frame { channels: 1, lm: 2, end: 21, trim: 5, total: 900, caps: [4_000; 21], ..Default::default() };
 /// let mut symbols = [

@@ -3,14 +3,14 @@ use crate::{raw, Allocation, Frame, Refusal, State, Wishes, ROOM};
 /// A writer over lent bytes. A refused call leaves it and the bytes as they were.
 ///
 /// ```
-/// # fn main() -> Result<(), celt::Refusal> {
+/// # fn main() -> Result<(), gurthapen::Refusal> {
 /// let mut bytes = [0; 4];
-/// let mut writer = celt::Writer::new(&mut bytes)?;
+/// let mut writer = gurthapen::Writer::new(&mut bytes)?;
 /// writer.bit_logp(true, 3)?;
 /// writer.icdf(1, &[2, 1, 0], 2)?;
-/// assert_eq!(writer.uint(5, 5), Err(celt::Refusal::Number));
+/// assert_eq!(writer.uint(5, 5), Err(gurthapen::Refusal::Number));
 /// writer.close()?;
-/// assert_eq!(writer.close(), Err(celt::Refusal::Closed));
+/// assert_eq!(writer.close(), Err(gurthapen::Refusal::Closed));
 /// # Ok(())
 /// # }
 /// ```
@@ -90,14 +90,14 @@ impl<'a> Writer<'a> {
     /// A Laplace value of a pair of the coarse-energy model; gives the value that counts as written.
     ///
     /// ```
-    /// # fn main() -> Result<(), celt::Refusal> {
+    /// # fn main() -> Result<(), gurthapen::Refusal> {
     /// let mut bytes = [0; 8];
-    /// let mut writer = celt::Writer::new(&mut bytes)?;
+    /// let mut writer = gurthapen::Writer::new(&mut bytes)?;
     /// assert_eq!(writer.laplace(-2, 72 << 7, 127 << 6)?, -2);
     /// // a value past the last one that has a place is adjusted
     /// let counted = writer.laplace(30_000, 72 << 7, 127 << 6)?;
     /// writer.close()?;
-    /// let mut reader = celt::Reader::new(&bytes)?;
+    /// let mut reader = gurthapen::Reader::new(&bytes)?;
     /// assert_eq!(reader.laplace(72 << 7, 127 << 6)?, -2);
     /// assert_eq!(reader.laplace(72 << 7, 127 << 6)?, counted);
     /// # Ok(())

@@ -2,8 +2,8 @@
 
 mod common;
 
-use celt::{Allocation, Frame, Reader, Wishes, Writer};
 use common::Random;
+use gurthapen::{Allocation, Frame, Reader, Wishes, Writer};
 
 #[derive(Clone, Debug)]
 enum Symbol {
@@ -89,7 +89,7 @@ fn symbols() {
         }
         whole += 1;
         let mut state = Reader::new(&bytes).unwrap().state();
-        for (symbol, told) in written {
+        for (symbol, tell) in written {
             let mut r = Reader::from_state(&bytes, state);
             match &symbol {
                 Symbol::Bit(bit, logp) => assert_eq!(r.bit_logp(*logp), Ok(*bit)),
@@ -103,7 +103,7 @@ fn symbols() {
                     assert_eq!(z, **y);
                 }
             }
-            assert_eq!(r.tell_frac(), Ok(told), "{symbol:?}");
+            assert_eq!(r.tell_frac(), Ok(tell), "{symbol:?}");
             assert!(!r.error());
             state = r.state();
         }
@@ -140,12 +140,12 @@ fn allocations() {
         let mut w = Writer::new(&mut bytes).unwrap();
         let mut wrote = Allocation::default();
         w.allocation(&frame, &wishes, &mut wrote).unwrap();
-        let told = w.tell_frac();
+        let tell = w.tell_frac();
         w.close().unwrap();
         let mut r = Reader::new(&bytes).unwrap();
         let mut read = Allocation::default();
         r.allocation(&frame, &mut read).unwrap();
         assert_eq!(wrote, read, "{frame:?} {wishes:?}");
-        assert_eq!(told, r.tell_frac());
+        assert_eq!(tell, r.tell_frac());
     }
 }

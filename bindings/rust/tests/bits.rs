@@ -1,7 +1,7 @@
 //! Floats that a call leaves alone, bit for bit: every list of floats after refusals that come before and after it is read, whatever NaNs stand in it,
 //! and the places outside the call's bands and channels after calls that are answered. The proofs have one NaN; that its bits stay is seen here.
 
-use celt::raw;
+use gurthapen::raw;
 
 const N: usize = 16;
 const K: i32 = 4;

@@ -1,6 +1,6 @@
 //! A wrong length is 2, before everything else, and nothing is written.
 
-use celt::raw;
+use gurthapen::raw;
 
 const NOT_TWELVE: [usize; 6] = [0, 1, 11, 13, 24, 1000];
 const NOT_ONE: [usize; 4] = [0, 2, 12, 1000];

@@ -6,11 +6,11 @@ use common::Random;
 
 #[test]
 fn example() {
-    assert_eq!(celt::list(b"1\t0\t0\t1\t5\t64\t00", 1), "R\t1\t1\t0\t0\t0\nB\t0\t8\t7\t1\n");
+    assert_eq!(gurthapen::list(b"1\t0\t0\t1\t5\t64\t00", 1), "R\t1\t1\t0\t0\t0\nB\t0\t8\t7\t1\n");
     // an empty trim means 5, an empty total 64 times the packet's bytes
-    assert_eq!(celt::list(b"1\t0\t0\t1\t\t\t00", 1), "R\t1\t1\t0\t0\t0\nB\t0\t8\t7\t1\n");
+    assert_eq!(gurthapen::list(b"1\t0\t0\t1\t\t\t00", 1), "R\t1\t1\t0\t0\t0\nB\t0\t8\t7\t1\n");
     assert_eq!(
-        celt::list(b"1\t0\t0\t1\t5\t71\t00", u32::MAX),
+        gurthapen::list(b"1\t0\t0\t1\t5\t71\t00", u32::MAX),
         "R\t4294967295\t1\t7\t0\t0\nB\t0\t8\t7\t0\n"
     );
 }
@@ -42,13 +42,13 @@ fn refused() {
         b"1\t0\t0\t1\t5\t99999999999\t00",
         b"\xff\xfe\0",
     ] {
-        assert_eq!(celt::list(line, 9), "X\t9\t1\n", "{}", String::from_utf8_lossy(line));
+        assert_eq!(gurthapen::list(line, 9), "X\t9\t1\n", "{}", String::from_utf8_lossy(line));
     }
     let hex = |bytes: usize| format!("1\t0\t0\t1\t5\t71\t{}", "00".repeat(bytes));
-    assert_eq!(celt::list(hex(1275).as_bytes(), 9), "R\t9\t1\t7\t0\t0\nB\t0\t8\t7\t0\n");
-    assert_eq!(celt::list(hex(1276).as_bytes(), 9), "X\t9\t1\n");
-    assert_eq!(celt::list(&[b'0'; 2601], 9), "X\t9\t1\n");
-    assert_eq!(celt::list(&[b'\t'; 100_000], 9), "X\t9\t1\n");
+    assert_eq!(gurthapen::list(hex(1275).as_bytes(), 9), "R\t9\t1\t7\t0\t0\nB\t0\t8\t7\t0\n");
+    assert_eq!(gurthapen::list(hex(1276).as_bytes(), 9), "X\t9\t1\n");
+    assert_eq!(gurthapen::list(&[b'0'; 2601], 9), "X\t9\t1\n");
+    assert_eq!(gurthapen::list(&[b'\t'; 100_000], 9), "X\t9\t1\n");
 }
 
 /// An answer has an R line of five numbers and a B line of four for each band.
@@ -63,7 +63,7 @@ fn form() {
         let (c, lm, trim) = (1 + random.below(2), random.below(4), random.below(11));
         let total = random.below(4_000) as i32 - 50;
         let line = format!("{c}\t{lm}\t{start}\t{end}\t{trim}\t{total}\t{hex}");
-        let answer = celt::list(line.as_bytes(), number);
+        let answer = gurthapen::list(line.as_bytes(), number);
         let lines: Vec<&str> = answer.lines().collect();
         assert!(
             answer.ends_with('\n') && lines.len() == 1 + (end - start) as usize,

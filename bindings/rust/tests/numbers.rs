@@ -1,6 +1,6 @@
 //! Numbers at the borders of the domain and far outside it.
 
-use celt::{Allocation, Coarse, Frame, LastBits, Reader, Record, Refusal, Shape, Wishes, Writer};
+use gurthapen::{Allocation, Coarse, Frame, LastBits, Reader, Record, Refusal, Shape, Wishes, Writer};
 
 const MAX: u32 = u32::MAX;
 
@@ -186,7 +186,7 @@ fn figures() {
         );
     }
     for (i, pulses) in [(7, 7), (8, 8), (23, 30), (40, 128)] {
-        assert_eq!(celt::get_pulses(i), Ok(pulses));
+        assert_eq!(gurthapen::get_pulses(i), Ok(pulses));
     }
 }
 

@@ -2,8 +2,8 @@
 
 mod common;
 
-use celt::{Coarse, Reader, Record, Refusal};
 use common::Random;
+use gurthapen::{Coarse, Reader, Record, Refusal};
 
 fn some_packet(random: &mut Random) -> Vec<u8> {
     let n = random.one_of(&[0, 1, 2, 3, 10, 60]);
@@ -205,7 +205,7 @@ fn any_lines() {
         let line = some_line(&mut random);
         let mut energies = [7.5; 42];
         let mut next = [u64::MAX];
-        let answer = celt::raw::record_restore(&line, &mut energies, &mut next);
+        let answer = gurthapen::raw::record_restore(&line, &mut energies, &mut next);
         match rule(&line) {
             Ok((want, number)) => {
                 seen[0] += 1;

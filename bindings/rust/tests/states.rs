@@ -2,8 +2,8 @@
 
 mod common;
 
-use celt::raw;
 use common::{close_refusal, read_refusal, reader_ok, some_state, write_refusal, writer_ok, Random};
+use gurthapen::raw;
 
 const ROUNDS: usize = 60_000;
 
@@ -14,9 +14,9 @@ fn readers() {
     for _ in 0..ROUNDS {
         let packet = vec![random.next() as u8; random.one_of(&[0, 1, 2, 7, 40])];
         let state = some_state(&mut random, packet.len());
-        let mut told = [99];
-        assert_eq!(raw::dec_tell(&state, &mut told), if reader_ok(&state) { 0 } else { 1 }, "{state:?}");
-        assert_eq!(raw::dec_tell_frac(&state, &mut told) == 0, reader_ok(&state));
+        let mut tell = [99];
+        assert_eq!(raw::dec_tell(&state, &mut tell), if reader_ok(&state) { 0 } else { 1 }, "{state:?}");
+        assert_eq!(raw::dec_tell_frac(&state, &mut tell) == 0, reader_ok(&state));
         let want = read_refusal(&state, packet.len());
         seen[want as usize] += 1;
         for call in 0..10 {
@@ -57,9 +57,9 @@ fn writers() {
     for _ in 0..ROUNDS {
         let bytes = vec![random.next() as u8; random.one_of(&[0, 1, 2, 7, 40])];
         let state = some_state(&mut random, bytes.len());
-        let mut told = [99];
-        assert_eq!(raw::enc_tell(&state, &mut told), if writer_ok(&state) { 0 } else { 1 }, "{state:?}");
-        assert_eq!(raw::enc_tell_frac(&state, &mut told) == 0, writer_ok(&state));
+        let mut tell = [99];
+        assert_eq!(raw::enc_tell(&state, &mut tell), if writer_ok(&state) { 0 } else { 1 }, "{state:?}");
+        assert_eq!(raw::enc_tell_frac(&state, &mut tell) == 0, writer_ok(&state));
         let write = write_refusal(&state, bytes.len());
         let close = close_refusal(&state, bytes.len());
         seen[write as usize] += 1;

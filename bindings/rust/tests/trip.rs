@@ -2,8 +2,8 @@
 
 mod common;
 
-use celt::{raw, round_trip, Allocation, Call, Frame, Outcome, Refusal, Symbol, Wishes, Writer};
 use common::Random;
+use gurthapen::{raw, round_trip, Allocation, Call, Frame, Outcome, Refusal, Symbol, Wishes, Writer};
 
 const TABLES: [&[u8]; 5] = [&[2, 1, 0], &[255, 128, 5, 0], &[0], &[], &[1, 2, 0]];
 
@@ -156,7 +156,7 @@ fn as_the_writer_says() {
     assert!(ends.iter().all(|&n| n > 50), "{ends:?}");
 }
 
-/// The first refusal is told, with its place.
+/// The first refusal is given, with its place.
 #[test]
 fn refusals() {
     let (frame, wishes) = (

@@ -1,6 +1,6 @@
 -- A vector and its number give each other back. Assumes nothing.
 use Prim.Native.Nat.{ℕ, zero, suc, _+_, _-_, _≤_, _<_}
-use mathlib.Core.Path.{_≡_, refl, sym, ap, _∙_}
+use mathlib.Core.Path.{_≡_, refl, ap, _∙_}
 use mathlib.Core.Bool.{Bool, true, false, cond, false≢true}
 use mathlib.Core.List.{List, [], _∷_}
 use native.Mathlib.Numerals.{add-one}
@@ -9,11 +9,12 @@ use lib.IntN.{ℤ, pos, negsuc, natAbs}
 use lib.ListN.{length, take}
 use lib.Seq.{length-take-le}
 use borrow.Author.Tests.{le-leb, lt-leb, le-ltb}
-use Rattle.laws.specs.Signs.{isNeg, valueOf}
+use Rattle.laws.specs.Signs.{isNeg, withSign}
 use Rattle.laws.proofs.Tests.{by-le}
 use Rattle.laws.proofs.Signs.{size-value, sign-value}
 use Rattle.cwrs_counts.specs.Count.{U, Vn}
 use Rattle.cwrs.specs.Word.{pulses, index, reach, word}
+use Rattle.cwrs.specs.Promises.{Numbered}
 use Rattle.cwrs_counts.proofs.Recurrence.{U-00, U-0s, U-ss, V-is, up1, up-le}
 use Rattle.cwrs.proofs.Words.{pulses-nil, pulses-cons, index-nil, index-cons, index-pos, index-neg, index-lt}
 use Rattle.cwrs.proofs.Back.{reach-le, reach-ok, reach-next, reach-stop, reach-down, First, first, word-zero, word-suc}
@@ -21,7 +22,7 @@ use Rattle.cwrs.proofs.Back.{reach-le, reach-ok, reach-next, reach-stop
 -- ---- one place more
 
 -- the first place where p of the vectors stand before those with a negative one: b, q and j as the number i shows them
-step : (n k i : ℕ) {b : Bool} {q j : ℕ} → First (suc n) k i b q j → word (suc n) k i ≡ valueOf b (k - j) ∷ word n j (q - U (suc n) j)
+step : (n k i : ℕ) {b : Bool} {q j : ℕ} → First (suc n) k i b q j → word (suc n) k i ≡ withSign b (k - j) ∷ word n j (q - U (suc n) j)
 step n k i f = let a = f .value in let l = f .left in let r = f .rest in rw (word-suc, a, l) (cc)
 
 -- the number i has no negative first place
@@ -38,39 +39,38 @@ negative n k i h =
 
 -- ---- the vector of a number has it
 
-pub record Right (n k i : ℕ) (v : List ℤ) : Type 0 where
-  pub long : length v ≡ n
-  pub sum : pulses v ≡ k
-  pub number : index v ≡ i
+-- by another name of the number
+renumbered : {n k x i : ℕ} {v : List ℤ} → x ≡ i → Numbered n k x v → Numbered n k i v
+renumbered e h = record { long = h .long; sum = h .sum; number = h .number ∙ e }
 
-numbered : {n k x i : ℕ} {v : List ℤ} → x ≡ i → Right n k x v → Right n k i v
-numbered e h = record { long = h .long; sum = h .sum; number = h .number ∙ e }
-
-sign-of : (b : Bool) (a : ℕ) → (b ≡ true → 0 < a) → isNeg (valueOf b a) ≡ b
+-- a zero has no sign
+sign-of : (b : Bool) (a : ℕ) → (b ≡ true → 0 < a) → isNeg (withSign b a) ≡ b
 sign-of true a h = sign-value true a (h refl)
 sign-of false a h = le-ltb a 0 (omega arith)
 
 -- a first place before the vector of n places, j pulses and the number r; k pulses with it
-join : (n j r k : ℕ) (b : Bool) (ys : List ℤ) → j ≤ k → (b ≡ true → j < k) → Right n j r ys
-    → Right (suc n) k (cond b (U (suc n) (suc k)) 0 + U (suc n) j + r) (valueOf b (k - j) ∷ ys)
+join : (n j r k : ℕ) (b : Bool) (ys : List ℤ) → j ≤ k → (b ≡ true → j < k) → Numbered n j r ys
+    → Numbered (suc n) k (cond b (U (suc n) (suc k)) 0 + U (suc n) j + r) (withSign b (k - j) ∷ ys)
 join n j r k b ys l g h =
     let e = h .long in
     let s = h .sum in
     let x = h .number in
-    let t : natAbs (valueOf b (k - j)) + pulses ys ≡ k = omega (arith, size-value b (k - j)) in
+    let t : natAbs (withSign b (k - j)) + pulses ys ≡ k = omega (arith, size-value b (k - j)) in
     let c = sign-of b (k - j) (λ q. omega (arith, g q)) in
     record {
       long = ap suc e;
-      sum = pulses-cons (valueOf b (k - j)) ys ∙ t;
-      number = index-cons (valueOf b (k - j)) ys ∙ rw (t, c, e, s, x);
+      sum = pulses-cons (withSign b (k - j)) ys ∙ t;
+      number = index-cons (withSign b (k - j)) ys ∙ rw (t, c, e, s, x);
     }
 
+-- what is left of the number is below the count of what is left
 row-rest : (n k q : ℕ) → q < U (suc n) (suc k) → q - U (suc n) (reach (suc n) k q) < Vn n (reach (suc n) k q)
 row-rest n k q h =
     let j = reach (suc n) k q in
     omega (arith, reach-ok (suc n) k q (omega arith), reach-next (suc n) k q h, U-ss n j, V-is n j)
 
-pub word-right : (n k i : ℕ) → i < Vn n k → Right n k i (word n k i)
+-- by induction on the places, by whether the first one is negative
+pub word-right : (n k i : ℕ) → i < Vn n k → Numbered n k i (word n k i)
 word-right zero zero i h =
     let z : 0 ≡ i = omega (arith, V-is 0 0, U-00, U-0s 0) in
     rw word-zero (record { long = refl; sum = pulses-nil; number = index-nil ∙ z })
@@ -86,24 +86,18 @@ word-right (suc n) k i h =
     let lj : j < k = by-le k j (λ g. absurd (omega (arith, up-le n g))) (λ g. g) in
     let w = word-right n j (q - U (suc n) j) (row-rest n k q (omega (arith, up1 n k))) in
     rw (step n k i (negative (suc n) k i l))
-    (numbered (omega arith) (join n j (q - U (suc n) j) k true (word n j (q - U (suc n) j)) (omega arith) (λ g. lj) w)))
+    (renumbered (omega arith) (join n j (q - U (suc n) j) k true (word n j (q - U (suc n) j)) (omega arith) (λ g. lj) w)))
     (λ l.
     let j = reach (suc n) k i in
     let ok = reach-ok (suc n) k i (omega arith) in
     let w = word-right n j (i - U (suc n) j) (row-rest n k i (omega arith)) in
     rw (step n k i (positive (suc n) k i l))
-    (numbered (omega arith)
+    (renumbered (omega arith)
     (join n j (i - U (suc n) j) k false (word n j (i - U (suc n) j)) (reach-le (suc n) k i) (λ g. absurd (false≢true g)) w)))
-
--- index (word n k i) ≡ i
-pub index-word : (n k i : ℕ) → i < Vn n k → index (word n k i) ≡ i
-index-word n k i h = word-right n k i h .number
-
-pub pulses-word : (n k i : ℕ) → i < Vn n k → pulses (word n k i) ≡ k
-pulses-word n k i h = word-right n k i h .sum
 
 -- ---- a vector is that of its number
 
+-- the counts rise, so only one place has i between itself and the next
 reach-unique : (n k j i : ℕ) → j ≤ k → U (suc n) j ≤ i → i < U (suc n) (suc j) → reach (suc n) k i ≡ j
 reach-unique n zero j i h l u = omega (arith, reach-le (suc n) 0 i)
 reach-unique n (suc k) j i h l u =
@@ -117,7 +111,7 @@ reach-unique n (suc k) j i h l u =
 
 -- the number i of k pulses, a of them in the first place, where q is its number among those of its sign
 rebuilt : (k i a : ℕ) (b : Bool) (q : ℕ) (ys : List ℤ) → First (suc (length ys)) k i b q (reach (suc (length ys)) k q) → k ≡ a + pulses ys
-    → q ≡ U (suc (length ys)) (pulses ys) + index ys → word (length ys) (pulses ys) (index ys) ≡ ys → word (suc (length ys)) k i ≡ valueOf b a ∷ ys
+    → q ≡ U (suc (length ys)) (pulses ys) + index ys → word (length ys) (pulses ys) (index ys) ≡ ys → word (suc (length ys)) k i ≡ withSign b a ∷ ys
 rebuilt k i a b q ys f ek eq w =
     let n = length ys in
     let j = pulses ys in
@@ -126,7 +120,7 @@ rebuilt k i a b q ys f ek eq w =
     let r : q - U (suc n) j ≡ index ys = omega arith in
     step n k i f ∙ rw (u, d, r, w)
 
--- word n (pulses v) (index v) ≡ v
+-- place by place: the number of the rest is what is left of the number
 pub word-index : (v : List ℤ) → word (length v) (pulses v) (index v) ≡ v
 word-index [] = word-zero (pulses []) (index [])
 word-index (pos a ∷ ys) =
@@ -147,14 +141,8 @@ word-index (negsuc a ∷ ys) =
     let e : i ≡ U (suc n) (k + 1) + U (suc n) (pulses ys) + index ys = index-neg a ys ∙ rw c in
     rebuilt k i (suc a) true (i - U (suc n) (k + 1)) ys (negative (suc n) k i (omega arith)) p (omega arith) (word-index ys)
 
--- so no two vectors of the same length and pulses have one number
-pub index-inj : (v w : List ℤ) → length v ≡ length w → pulses v ≡ pulses w → index v ≡ index w → v ≡ w
-index-inj v w l p i = sym (word-index v) ∙ cc (word-index w)
+-- ---- the first n places of a vector of k pulses
 
--- ---- what is read back: the first n places of a vector of k pulses
-
-pub word-back : (n k : ℕ) (y : List ℤ) → n ≤ length y → pulses (take n y) ≡ k → word n k (index (take n y)) ≡ take n y
-word-back n k y h e = let l = length-take-le n y h in rw (l, e) at (word-index (take n y))
-
+-- as one that the coder can write
 pub index-below : (n k : ℕ) (y : List ℤ) → n ≤ length y → pulses (take n y) ≡ k → index (take n y) < Vn n k
 index-below n k y h e = let l = length-take-le n y h in rw (l, e) at (index-lt (take n y))

@@ -1,21 +1,21 @@
--- The enum, told back from what it says: two that say the same are one. Assumes nothing.
+-- The enum is found again from what it says: two that say the same are one. Assumes nothing.
 use mathlib.Core.Path.{_≡_, refl}
 use Rattle.entcode.specs.Said.Said.{done, refused}
 use Rattle.entcode.specs.Said.{Said}
 use Rattle.entcode.proofs.Said.{alike}
 use Rattle.cwrs.specs.declared.Decoded.{Decoded}
-use Rattle.cwrs.specs.declared.Decoded.the-variants.{Got, Refused}
+use Rattle.cwrs.specs.declared.Decoded.the-variants.{Done, Refused}
 use Rattle.cwrs.specs.declared.Found.{Found}
 use Rattle.cwrs.specs.Answer.{said}
 
 -- the answer that says this
 abbrev pub back : Said Found → Decoded
-back (done y) = Got y
+back (done y) = Done y
 back (refused n) = Refused n
 
--- telling it back gives the answer
+-- it is the answer that was said
 pub said-back : (r : Decoded) → back (said r) ≡ r
-said-back (Got y) = refl
+said-back (Done y) = refl
 said-back (Refused n) = refl
 
 -- two that say the same are one

@@ -9,7 +9,7 @@ use Rattle.entcode.specs.Said.{Said, answer, lentAfter}
 use Rattle.entcode.specs.Said.Said.{done, refused}
 use Rattle.entcode.specs.Sym.Shape.{uint}
 use Rattle.entdec.specs.declared.Reader.{Reader}
-use Rattle.entdec.specs.declared.Read.{Read}
+use Rattle.entdec.specs.declared.ReadSymbol.{ReadSymbol}
 use Rattle.entdec.specs.Rule.{readRefusal}
 use Rattle.entdec.specs.Symbols.{readSym}
 use Rattle.entenc.specs.Write.{Wr}
@@ -20,7 +20,7 @@ use Rattle.cwrs_counts.specs.Count.{Vn}
 use Rattle.cwrs.specs.Word.{pulses, energy, index, word}
 use Rattle.cwrs.specs.declared.Found.{Found}
 use Rattle.cwrs.specs.declared.Decoded.{Decoded}
-use Rattle.cwrs.specs.declared.Decoded.the-variants.{Got, Refused}
+use Rattle.cwrs.specs.declared.Decoded.the-variants.{Done, Refused}
 
 -- ---- the refusals that are these calls' own
 
@@ -28,22 +28,22 @@ use Rattle.cwrs.specs.declared.Decoded.the-variants.{Got, Refused}
 abbrev pub inDomain : ℕ → ℕ → Bool
 inDomain n k = leb 2 n && leb n 176 && leb 1 k && leb k 128
 
--- a pulse vector has room for 176 numbers (2)
-abbrev pub isRoom : List ℤ → Bool
-isRoom y = eqb (length y) 176
+-- lent are as many places as the longest vector takes, whatever n is (2)
+abbrev pub placesSized : List ℤ → Bool
+placesSized y = eqb (length y) 176
 
 -- reading: V(N,K) is below 2^32, or 7
-unfoldable pub ownRead : ℕ → ℕ → ℕ
-ownRead n k = cond (ltb (Vn n k) 4294967296) 0 7
+unfoldable pub specialRead : ℕ → ℕ → ℕ
+specialRead n k = cond (ltb (Vn n k) 4294967296) 0 7
 
 -- writing: 7 first, and then the first n places have k pulses, or 8
-unfoldable pub ownWrite : List ℤ → ℕ → ℕ → ℕ
-ownWrite y n k = cond (ltb (Vn n k) 4294967296) (cond (eqb (pulses (take n y)) k) 0 8) 7
+unfoldable pub specialWrite : List ℤ → ℕ → ℕ → ℕ
+specialWrite y n k = cond (ltb (Vn n k) 4294967296) (cond (eqb (pulses (take n y)) k) 0 8) 7
 
 -- ---- reading
 
 -- the number read, below V(N,K)
-abbrev pub readIndex : ℕ → ℕ → List ℕ → Reader → Read
+abbrev pub readIndex : ℕ → ℕ → List ℕ → Reader → ReadSymbol
 readIndex n k s d = readSym (uint (Vn n k)) s d
 
 -- its vector
@@ -56,27 +56,28 @@ foundOf n k s d = record { energy = energy (readWord n k s d); next = readIndex 
 
 -- the refusal of reading, 0 for none
 unfoldable pub refusalRead : ℕ → ℕ → List ℕ → Reader → List ℤ → ℕ
-refusalRead n k s d y = readRefusal (length s) d (isRoom y) (inDomain n k) true (ownRead n k)
+refusalRead n k s d y = readRefusal (length s) d (placesSized y) (inDomain n k) true (specialRead n k)
 
 -- what an answer of a read says
 abbrev pub said : Decoded → Said Found
-said (Got f) = done f
+said (Done f) = done f
 said (Refused m) = refused m
 
 -- what is said, and the lent places after the call
-pub record Placed : Type 0 where
+pub record AfterRead : Type 0 where
   pub said : Said Found
   pub places : List ℤ
 
-abbrev pub placed : Decoded → List ℤ → Placed
-placed r y = record { said = said r; places = y }
+-- made of its two parts
+abbrev pub afterRead : Decoded → List ℤ → AfterRead
+afterRead r y = record { said = said r; places = y }
 
 -- number 0: what was found, with its places; any other: that refusal, and the places as they were
-abbrev pub answerR : ℕ → Found → List ℤ → List ℤ → Placed
+abbrev pub answerR : ℕ → Found → List ℤ → List ℤ → AfterRead
 answerR m f v y = record { said = answer m f; places = lentAfter m v y }
 
 -- a checked read: the vector stands in the first n places, and the others stay
-abbrev pub reading : ℕ → ℕ → List ℕ → Reader → List ℤ → Placed
+abbrev pub reading : ℕ → ℕ → List ℕ → Reader → List ℤ → AfterRead
 reading n k s d y = answerR (refusalRead n k s d y) (foundOf n k s d) (readWord n k s d ++ drop n y) y
 
 -- ---- writing
@@ -87,7 +88,7 @@ writeWord n k y w = writeSym (uint (Vn n k)) (index (take n y)) w
 
 -- the refusal of writing, 0 for none
 unfoldable pub refusalWrite : ℕ → ℕ → List ℤ → Wr → ℕ
-refusalWrite n k y w = writeRefusal (length (w .bytes)) (w .st) (isRoom y) (inDomain n k) true (ownWrite y n k)
+refusalWrite n k y w = writeRefusal (length (w .bytes)) (w .st) (placesSized y) (inDomain n k) true (specialWrite y n k)
 
 -- a checked write
 abbrev pub writing : ℕ → ℕ → List ℤ → Wr → wrote.After

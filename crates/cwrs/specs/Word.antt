@@ -7,7 +7,7 @@ use mathlib.Core.List.{List, [], _∷_}
 use lib.IntN.{ℤ, natAbs}
 use lib.ListN.{length}
 use lib.Dec.{leb}
-use Rattle.laws.specs.Signs.{isNeg, valueOf}
+use Rattle.laws.specs.Signs.{isNeg, withSign}
 use Rattle.cwrs_counts.specs.Count.{U}
 
 -- how many pulses a vector has
@@ -22,7 +22,7 @@ energy (y ∷ ys) = natAbs y * natAbs y + energy ys
 
 -- ---- section 5.3.8.2: from the vector to its number
 
--- How many vectors stand before this one. Before a negative place those with none or a positive one; of the same sign those whose first
+-- How many vectors stand before this one (icwrs). Before a negative place those with none or a positive one; of the same sign those whose first
 -- place leaves fewer pulses; with the same first place those whose rest stands before
 unfoldable pub index : List ℤ → ℕ
 index [] = 0
@@ -50,12 +50,13 @@ tailPulses n k i = reach n k (signIndex n k i)
 
 -- this first place
 unfoldable pub headPulse : ℕ → ℕ → ℕ → ℤ
-headPulse n k i = valueOf (headNeg n k i) (k - tailPulses n k i)
+headPulse n k i = withSign (headNeg n k i) (k - tailPulses n k i)
 
 -- and after it the vector with this number
 unfoldable pub tailIndex : ℕ → ℕ → ℕ → ℕ
 tailIndex n k i = signIndex n k i - U n (tailPulses n k i)
 
+-- so the vector with the number i, of those of n places and k pulses (cwrsi)
 unfoldable pub word : ℕ → ℕ → ℕ → List ℤ
 word zero k i = []
 word (suc n) k i = headPulse (suc n) k i ∷ word n (tailPulses (suc n) k i) (tailIndex (suc n) k i)

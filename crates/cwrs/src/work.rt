@@ -29,7 +29,7 @@ pub fn total(y: &[i32], n: usize) -> usize
     while j > 0 {
         j -= 1;
         let v = y[j];
-        k += laws::size(v) as usize;
+        k += laws::unsigned_abs(v) as usize;
     }
     k
 }
@@ -47,7 +47,7 @@ pub fn icwrs(y: &[i32], n: usize) -> u32
         let m = n - j;
         let v = y[j];
         i += pvq_u(m, k);
-        k += laws::size(v) as usize;
+        k += laws::unsigned_abs(v) as usize;
         if v < 0 {
             i += pvq_u(m, k + 1);
         }
@@ -157,7 +157,7 @@ pub fn energy(y: &[i32], n: usize) -> u32
     while j > 0 {
         j -= 1;
         let v = y[j];
-        let s = laws::size(v);
+        let s = laws::unsigned_abs(v);
         e += s * s;
     }
     e

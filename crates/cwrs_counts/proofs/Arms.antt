@@ -1,6 +1,6 @@
 -- The rows of the stored counts, and their lengths, as the arms of a match. Assumes nothing.
 use Prim.Native.Nat.{ℕ, zero, suc, _+_, _*_, _≤_}
-use mathlib.Core.Path.{_≡_, refl, sym, ap}
+use mathlib.Core.Path.{_≡_, sym, ap}
 use mathlib.Core.Bool.{true}
 use mathlib.Core.List.{List, []}
 use native.Mathlib.Omega.{arith}
@@ -8,14 +8,14 @@ use lib.Dec.{leb}
 use lib.ListN.{length, drop, drop-of-length-le, List·getD-eq-default}
 use borrow.Author.Tests.{leb-true}
 use Rattle.cwrs_counts.specs.Table.{counts}
-use Rattle.cwrs_counts.specs.Rows.{rowAt, lenAt, pairOf, pairAt}
+use Rattle.cwrs_counts.specs.Rows.{rowAt, lenAt, packedPair, packedAt}
 
 -- an arm of a row: g is its number
-pub hit : (a g : ℕ) {k w : ℕ} → g ≡ k → w ≡ pairAt a k → w ≡ pairAt a g
+pub hit : (a g : ℕ) {k w : ℕ} → g ≡ k → w ≡ packedAt a k → w ≡ packedAt a g
 hit a g e h = rw e h
 
 -- an arm of the rows
-pub row-is : (a g : ℕ) {k w : ℕ} → a ≡ k → w ≡ pairAt k g → w ≡ pairAt a g
+pub row-is : (a g : ℕ) {k w : ℕ} → a ≡ k → w ≡ packedAt k g → w ≡ packedAt a g
 row-is a g e h = rw e h
 
 -- an arm of the lengths
@@ -27,6 +27,7 @@ abbrev pub Besides : Type 0 → ℕ → ℕ → ℕ → Type 0
 Besides N k zero g = N
 Besides N k (suc m) g = Besides (N × (g ≡ k → ⊥)) (suc k) m g
 
+-- what N says is still known after them
 besides : (m : ℕ) (N : Type 0) (k g : ℕ) → Besides N k m g → N
 besides zero N k g b = b
 besides (suc m) N k g b = besides m (N × (g ≡ k → ⊥)) (suc k) g b .0
@@ -39,13 +40,13 @@ past (suc m) N k g b h =
     omega (arith, past m (N × (g ≡ k → ⊥)) (suc k) g b (omega (arith, n)))
 
 -- the last arm of a row: m pairs are the whole of it
-pub missed : (a m : ℕ) → leb (length (rowAt a)) (2 * m) ≡ true → (g : ℕ) → Besides (Unit {0}) 0 m g → 0 ≡ pairAt a g
-unfolding pairAt
+pub missed : (a m : ℕ) → leb (length (rowAt a)) (2 * m) ≡ true → (g : ℕ) → Besides (Unit {0}) 0 m g → 0 ≡ packedAt a g
+unfolding packedAt
 missed a m t g b =
     let e : drop (2 * g) (rowAt a) ≡ [] =
     drop-of-length-le (rowAt a) {i = 2 * g} (omega (arith, leb-true (length (rowAt a)) (2 * m) t, past m (Unit {0}) 0 g b (omega arith)))
     in
-    sym (ap pairOf e)
+    sym (ap packedPair e)
 
 -- the last arm of the lengths
 pub no-row : (a : ℕ) → Besides (Unit {0}) 0 15 a → 0 ≡ lenAt a

@@ -1,19 +1,19 @@
 -- The stored count table: one test that antt computes over all of it, and one lemma that turns the test into the counts. Assumes nothing.
 use Prim.Native.Nat.{ℕ, zero, suc, _+_, _*_, _/_, _%_, _≤_, _<_}
 use mathlib.Core.Path.{_≡_, refl, sym, ap, _∙_, subst}
-use mathlib.Core.Bool.{Bool, true, false, cond, _&&_, _||_, false≢true, and-eq-true-iff}
+use mathlib.Core.Bool.{true, false, cond, _&&_, _||_, false≢true, and-eq-true-iff}
 use mathlib.Core.List.{List, [], _∷_}
 use mathlib.Core.Logic.{_⊎_, inl, inr, ⊎-elim}
 use native.Mathlib.Nat.{add-zero, add-suc, suc-add, le-trans, le-of-suc-le-suc, not-suc-le-zero}
 use native.Mathlib.Omega.{arith}
-use lib.Dec.{eqb, leb, ltb, lit<, lit≤}
+use lib.Dec.{eqb, ltb, lit<, lit≤}
 use lib.ListN.{length, getD, drop, List·getD-eq-default}
 use lib.Seq.{getD-drop}
 use borrow.Author.Tests.{lt-ltb, le-ltb, eqb-true, eqb-false, leb-true, ltb-true}
 use Rattle.laws.proofs.Tests.{split-on, by-le}
 use Rattle.cwrs_counts.specs.Count.{U}
 use Rattle.cwrs_counts.specs.Table.{counts, zerosObey, firstObeys, restObeys, rowObeys, rowsObey, obeys}
-use Rattle.cwrs_counts.specs.Rows.{rowAt, lenAt, pairAt}
+use Rattle.cwrs_counts.specs.Rows.{rowAt, lenAt, packedAt}
 use Rattle.cwrs_counts.proofs.Recurrence.{U-00, U-0s, U-s0, U-s1, U-ss, U-sym, up-le, both-le}
 
 -- ---- the one test over the whole table
@@ -146,8 +146,9 @@ small a b h =
 halves : (x y : ℕ) → x < 4294967296 → ((x + 4294967296 * y) % 4294967296 ≡ x) × ((x + 4294967296 * y) / 4294967296 ≡ y)
 halves x y h = (omega arith, omega arith)
 
-pub halved : (a b : ℕ) → a ≤ 14 → cond (eqb (b % 2) 0) (pairAt a (b / 2) % 4294967296) (pairAt a (b / 2) / 4294967296) ≡ getD (rowAt a) b 0
-unfolding pairAt
+-- so the half that the code takes is the table's entry
+pub halved : (a b : ℕ) → a ≤ 14 → cond (eqb (b % 2) 0) (packedAt a (b / 2) % 4294967296) (packedAt a (b / 2) / 4294967296) ≡ getD (rowAt a) b 0
+unfolding packedAt
 halved a b h =
     let l = drop (2 * (b / 2)) (rowAt a) in
     let at : (i : ℕ) → getD l i 0 ≡ getD (rowAt a) (2 * (b / 2) + i) 0 = λ i. getD-drop (2 * (b / 2)) (rowAt a) i 0 in
@@ -162,19 +163,23 @@ halved a b h =
 
 -- ---- rows 0 and 1
 
+-- zeros, after a 1
 row-0 : (b : ℕ) → (b ≡ 0 → ⊥) → 0 ≡ U 0 b
 row-0 zero h = absurd (h refl)
 row-0 (suc b) h = sym (U-0s b)
 
+-- ones, after a 0
 row-1 : (b : ℕ) → 1 ≤ b → 1 ≡ U 1 b
 row-1 zero h = absurd (not-suc-le-zero h)
 row-1 (suc b) h = sym (U-sym 1 (suc b) ∙ U-s1 b)
 
+-- where the code answers 1
 pub edge-one : (a b : ℕ) → a ≤ 1 → a ≤ b → (eqb a 1 || eqb b 0) ≡ true → 1 ≡ U a b
 edge-one zero b h g t = rw (eqb-true b 0 t) (sym U-00)
 edge-one (suc zero) b h g t = row-1 b g
 edge-one (suc (suc a)) b h g t = absurd (omega arith)
 
+-- where it answers 0
 pub edge-none : (a b : ℕ) → a ≤ 1 → a ≤ b → (eqb a 1 || eqb b 0) ≡ false → 0 ≡ U a b
 edge-none zero b h g t = row-0 b (eqb-false b 0 t)
 edge-none (suc zero) b h g t = absurd (false≢true (sym t))
@@ -182,33 +187,41 @@ edge-none (suc (suc a)) b h g t = absurd (omega arith)
 
 -- ---- what is not stored does not fit
 
+-- there is no row past the last
 no-length : (a : ℕ) → 15 ≤ a → lenAt a ≡ 0
 no-length a h = ap (λ (r : List ℕ). length r) (List·getD-eq-default counts [] {n = a} (omega (arith, last-row)))
 
+-- row 0 is full
 len-0 : lenAt 0 ≡ 177
 unfolding counts
 len-0 = refl
 
+-- a row's end is where counts stop to fit
 pub absent : (a b : ℕ) → b ≤ 176 → a ≤ 14 → lenAt a ≤ b → 4294967296 ≤ U a b
 absent zero b q g l = omega (arith, len-0)
 absent (suc a) b q g l = ⊎-elim (λ e. omega arith) (λ e. le-trans e (up-le a l)) (rows (suc a) g .1)
 
+-- stored
 U-14-14 : 1409933619 ≡ U 14 14
 unfolding counts
 U-14-14 = value 14 14 (lit≤ tt) (lit< tt) .0
 
+-- stored
 U-14-15 : 3256957317 ≡ U 14 15
 unfolding counts
 U-14-15 = value 14 15 (lit≤ tt) (lit< tt) .0
 
+-- the first count of the row after the last
 U-15-15 : 4294967296 ≤ U 15 15
 U-15-15 = omega (arith, U-ss 14 14, U-sym 15 14, U-14-14, U-14-15)
 
+-- so no count of a row past the last fits
 pub large : (a b : ℕ) → 15 ≤ a → 15 ≤ b → 4294967296 ≤ U a b
 large zero b h q = absurd (not-suc-le-zero h)
 large (suc a) zero h q = absurd (not-suc-le-zero q)
 large (suc a) (suc b) h q = le-trans U-15-15 (both-le (le-of-suc-le-suc h) (le-of-suc-le-suc q))
 
+-- a count that fits has its place
 pub stored : (a b : ℕ) → a ≤ b → b ≤ 176 → U a b < 4294967296 → (a ≤ 14) × (b < lenAt a)
 stored a b h q s =
     by-le a 14 (λ g. (g, by-le (lenAt a) b (λ l. absurd (omega (arith, absent a b q g l))) (λ l. l)))

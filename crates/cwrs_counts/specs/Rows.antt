@@ -13,9 +13,9 @@ abbrev pub lenAt : ℕ → ℕ
 lenAt a = length (rowAt a)
 
 -- two numbers of 32 bits in one
-abbrev pub pairOf : List ℕ → ℕ
-pairOf l = getD l 0 0 + 4294967296 * getD l 1 0
+abbrev pub packedPair : List ℕ → ℕ
+packedPair l = getD l 0 0 + 4294967296 * getD l 1 0
 
 -- row a from place 2 g on
-unfoldable pub pairAt : ℕ → ℕ → ℕ
-pairAt a g = pairOf (drop (2 * g) (rowAt a))
+unfoldable pub packedAt : ℕ → ℕ → ℕ
+packedAt a g = packedPair (drop (2 * g) (rowAt a))

@@ -1,5 +1,5 @@
--- The stored count table, RFC 6716, section 4.3.4.2: row n has U(n, 0), U(n, 1), .. as far as 32 bits hold them, and place 176 at most. Document 01 has
--- every entry obey the recurrence: `obeys` is that test over the whole table. No public contract cites this; that the entries are the counts is proved.
+-- The stored count table, RFC 6716, section 4.3.4.2: row n has U(n, 0), U(n, 1), .. as far as 32 bits hold them, and place 176 at most. `obeys` tests
+-- the recurrence over all of it: document 01, "Range coder and counts". No public contract cites this; that the entries are the counts is proved.
 use Prim.Native.Nat.{ℕ, suc, _+_}
 use mathlib.Core.Bool.{Bool, true, false, _&&_}
 use mathlib.Core.List.{List, [], _∷_}

@@ -5,11 +5,11 @@ ghost use mathlib.Core.Bool.{cond};
 ghost use Prim.Native.Nat.{_<_, _≤_, _^_, _%_, _/_};
 ghost use lib.Dec.{ltb, eqb};
 ghost use Rattle.cwrs_counts.specs.Count.{U};
-ghost use Rattle.cwrs_counts.specs.Rows.{lenAt, pairAt};
+ghost use Rattle.cwrs_counts.specs.Rows.{lenAt, packedAt};
 
 // Row 2, from place 2 g on.
 fn row_2(g: usize) -> u64
-    ensures { λ r. ⌜ r ≡ pairAt 2 g ⌝ }
+    ensures { λ r. ⌜ r ≡ packedAt 2 g ⌝ }
 {
     match g {
         0 => 0x00000001_00000000,
@@ -107,7 +107,7 @@ fn row_2(g: usize) -> u64
 
 // Row 3, from place 2 g on.
 fn row_3(g: usize) -> u64
-    ensures { λ r. ⌜ r ≡ pairAt 3 g ⌝ }
+    ensures { λ r. ⌜ r ≡ packedAt 3 g ⌝ }
 {
     match g {
         0 => 0x00000001_00000000,
@@ -205,7 +205,7 @@ fn row_3(g: usize) -> u64
 
 // Row 4, from place 2 g on.
 fn row_4(g: usize) -> u64
-    ensures { λ r. ⌜ r ≡ pairAt 4 g ⌝ }
+    ensures { λ r. ⌜ r ≡ packedAt 4 g ⌝ }
 {
     match g {
         0 => 0x00000001_00000000,
@@ -303,7 +303,7 @@ fn row_4(g: usize) -> u64
 
 // Row 5, from place 2 g on.
 fn row_5(g: usize) -> u64
-    ensures { λ r. ⌜ r ≡ pairAt 5 g ⌝ }
+    ensures { λ r. ⌜ r ≡ packedAt 5 g ⌝ }
 {
     match g {
         0 => 0x00000001_00000000,
@@ -401,7 +401,7 @@ fn row_5(g: usize) -> u64
 
 // Row 6, from place 2 g on.
 fn row_6(g: usize) -> u64
-    ensures { λ r. ⌜ r ≡ pairAt 6 g ⌝ }
+    ensures { λ r. ⌜ r ≡ packedAt 6 g ⌝ }
 {
     match g {
         0 => 0x00000001_00000000,
@@ -466,7 +466,7 @@ fn row_6(g: usize) -> u64
 
 // Row 7, from place 2 g on.
 fn row_7(g: usize) -> u64
-    ensures { λ r. ⌜ r ≡ pairAt 7 g ⌝ }
+    ensures { λ r. ⌜ r ≡ packedAt 7 g ⌝ }
 {
     match g {
         0 => 0x00000001_00000000,
@@ -506,7 +506,7 @@ fn row_7(g: usize) -> u64
 
 // Row 8, from place 2 g on.
 fn row_8(g: usize) -> u64
-    ensures { λ r. ⌜ r ≡ pairAt 8 g ⌝ }
+    ensures { λ r. ⌜ r ≡ packedAt 8 g ⌝ }
 {
     match g {
         0 => 0x00000001_00000000,
@@ -536,7 +536,7 @@ fn row_8(g: usize) -> u64
 
 // Row 9, from place 2 g on.
 fn row_9(g: usize) -> u64
-    ensures { λ r. ⌜ r ≡ pairAt 9 g ⌝ }
+    ensures { λ r. ⌜ r ≡ packedAt 9 g ⌝ }
 {
     match g {
         0 => 0x00000001_00000000,
@@ -561,7 +561,7 @@ fn row_9(g: usize) -> u64
 
 // Row 10, from place 2 g on.
 fn row_10(g: usize) -> u64
-    ensures { λ r. ⌜ r ≡ pairAt 10 g ⌝ }
+    ensures { λ r. ⌜ r ≡ packedAt 10 g ⌝ }
 {
     match g {
         0 => 0x00000001_00000000,
@@ -583,7 +583,7 @@ fn row_10(g: usize) -> u64
 
 // Row 11, from place 2 g on.
 fn row_11(g: usize) -> u64
-    ensures { λ r. ⌜ r ≡ pairAt 11 g ⌝ }
+    ensures { λ r. ⌜ r ≡ packedAt 11 g ⌝ }
 {
     match g {
         0 => 0x00000001_00000000,
@@ -603,7 +603,7 @@ fn row_11(g: usize) -> u64
 
 // Row 12, from place 2 g on.
 fn row_12(g: usize) -> u64
-    ensures { λ r. ⌜ r ≡ pairAt 12 g ⌝ }
+    ensures { λ r. ⌜ r ≡ packedAt 12 g ⌝ }
 {
     match g {
         0 => 0x00000001_00000000,
@@ -622,7 +622,7 @@ fn row_12(g: usize) -> u64
 
 // Row 13, from place 2 g on.
 fn row_13(g: usize) -> u64
-    ensures { λ r. ⌜ r ≡ pairAt 13 g ⌝ }
+    ensures { λ r. ⌜ r ≡ packedAt 13 g ⌝ }
 {
     match g {
         0 => 0x00000001_00000000,
@@ -640,7 +640,7 @@ fn row_13(g: usize) -> u64
 
 // Row 14, from place 2 g on.
 fn row_14(g: usize) -> u64
-    ensures { λ r. ⌜ r ≡ pairAt 14 g ⌝ }
+    ensures { λ r. ⌜ r ≡ packedAt 14 g ⌝ }
 {
     match g {
         0 => 0x00000001_00000000,
@@ -658,7 +658,7 @@ fn row_14(g: usize) -> u64
 // Row a, from place 2 g on.
 fn pair_of(a: usize, g: usize) -> u64
     requires { ⌜ (2 ≤ a) × (a ≤ 14) ⌝ }
-    ensures { λ r. ⌜ r ≡ pairAt a g ⌝ }
+    ensures { λ r. ⌜ r ≡ packedAt a g ⌝ }
 {
     match a {
         2 => row_2(g),

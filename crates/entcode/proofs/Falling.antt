@@ -13,14 +13,17 @@ use borrow.Author.Tests.{lt-ltb, le-ltb, ne-eqb}
 use Rattle.entcode.specs.Sym.{falls}
 
 module _ (p : ℕ) (t : List ℕ) (i : ℕ) where
+  -- an entry that falls
   pub falls-step : i < length t → getD t i 0 < p → falls p (drop i t) ≡ falls (getD t i 0) (drop (i + 1) t)
   unfolding falls
   falls-step h l = simp (add-one, drop-cons t i 0 h, lt-ltb _ _ l)
 
+  -- one that does not
   pub falls-stop : i < length t → p ≤ getD t i 0 → falls p (drop i t) ≡ false
   unfolding falls
   falls-stop h l = simp (drop-cons t i 0 h, le-ltb _ _ l)
 
+  -- past the last entry, which must be 0
   pub falls-end : length t ≤ i → falls p (drop i t) ≡ eqb p 0
   unfolding falls
   falls-end h = rw (drop-of-length-le t h)

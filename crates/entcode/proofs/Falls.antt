@@ -9,10 +9,12 @@ use lib.Dec.{ltb}
 use borrow.Author.Tests.{ltb-true}
 use Rattle.entcode.specs.Sym.{falls}
 
+-- entry v is below the one before it, and that is at most p
 pub record Entry (p : ℕ) (t : List ℕ) (v : ℕ) : Type 0 where
   pub lt : getD t v 0 < getD (p ∷ t) v 0
   pub le : getD (p ∷ t) v 0 ≤ p
 
+-- every entry of such a table
 pub entry : (p : ℕ) (t : List ℕ) (v : ℕ) → falls p t ≡ true → v < length t → Entry p t v
 unfolding falls
 entry p [] v e h = absurd (omega arith)

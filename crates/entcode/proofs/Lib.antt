@@ -1,8 +1,8 @@
-pub mod Turns
+pub mod RenormSteps
 pub mod Cuts
 pub mod Falls
 pub mod Falling
-pub mod Parts
+pub mod Pieces
 pub mod Refusals
 pub mod Rule
 pub mod Logs

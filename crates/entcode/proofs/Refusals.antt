@@ -6,17 +6,19 @@ use native.Mathlib.Omega.{arith}
 use borrow.Author.Tests.{ne-eqb}
 use Rattle.entcode.specs.Refusal.{refusal}
 
-pub record Passed (lengths numbers lists : Bool) (own : ℕ) (live told : Bool) : Type 0 where
-  pub two : lengths ≡ true
-  pub one : numbers ≡ true
-  pub three : lists ≡ true
-  pub none : own ≡ 0
-  pub twelve : live ≡ true
-  pub four : told ≡ true
+-- no refusal applies: each test by its number
+pub record Passed (lengths numbers lists : Bool) (special : ℕ) (unclosed tellFits : Bool) : Type 0 where
+  pub no-2 : lengths ≡ true
+  pub no-1 : numbers ≡ true
+  pub no-3 : lists ≡ true
+  pub no-special : special ≡ 0
+  pub no-12 : unclosed ≡ true
+  pub no-4 : tellFits ≡ true
 
+-- by the cases of the definition
 pub passed : (a b c : Bool) (n : ℕ) (d e : Bool) → refusal a b c n d e ≡ 0 → Passed a b c n d e
 unfolding refusal
-passed true true true zero true true h = record { two = refl; one = refl; three = refl; none = refl; twelve = refl; four = refl }
+passed true true true zero true true h = record { no-2 = refl; no-1 = refl; no-3 = refl; no-special = refl; no-12 = refl; no-4 = refl }
 passed true true true zero true false h = absurd (omega arith)
 passed true true true zero false e h = absurd (omega arith)
 passed true true true (suc n) d e h = absurd (let z = simp (ne-eqb (suc n) 0 (λ e. omega arith)) at h in omega (arith, z))

@@ -1,9 +1,9 @@
--- What document 01 asks of a coder state that is handed in, as far as it is the same for reader and writer; and what tell says.
+-- What is asked of a coder state that is handed in, the same for reader and writer: document 01, "When the answer is no"; and what tell says.
 use Prim.Native.Nat.{ℕ, _+_, _*_}
 use mathlib.Core.Bool.{Bool, cond, _&&_}
 use lib.Dec.{ltb, leb}
-use Rattle.entcode.specs.declared.Told.{Told}
-use Rattle.entcode.specs.declared.Told.the-variants.{Used, Refused}
+use Rattle.entcode.specs.declared.TellAnswer.{TellAnswer}
+use Rattle.entcode.specs.declared.TellAnswer.the-variants.{Done, Refused}
 use Rattle.entcode.specs.Tell.{tellOf}
 use Rattle.entcode.specs.Said.{Said, answer}
 use Rattle.entcode.specs.Said.Said.{done, refused}
@@ -18,10 +18,10 @@ abbrev pub tellOk : ℕ → ℕ → ℕ → Bool
 tellOk storage total rng = leb (tellOf total rng) (8 * storage + 32)
 
 -- what an answer of tell or tell_frac says
-abbrev pub saidTold : Told → Said ℕ
-saidTold (Used n) = done n
-saidTold (Refused n) = refused n
+abbrev pub saidTell : TellAnswer → Said ℕ
+saidTell (Done n) = done n
+saidTell (Refused n) = refused n
 
 -- what tell and tell_frac say: n, or refusal 1 where the state breaks its rule
-abbrev pub toldOf : Bool → ℕ → Said ℕ
-toldOf ok n = answer (cond ok 0 1) n
+abbrev pub tellSaid : Bool → ℕ → Said ℕ
+tellSaid ok n = answer (cond ok 0 1) n

@@ -22,7 +22,7 @@ unfoldable pub lentAfter : {A : Type 0} → ℕ → A → A → A
 lentAfter zero written before = written
 lentAfter (suc n) written before = before
 
--- the same, its values shown another way
-abbrev pub shown : {A B : Type 0} → (A → B) → Said A → Said B
-shown f (Said.done v) = Said.done (f v)
-shown f (Said.refused n) = Said.refused n
+-- what is said, with a function of its values
+abbrev pub mapSaid : {A B : Type 0} → (A → B) → Said A → Said B
+mapSaid f (Said.done v) = Said.done (f v)
+mapSaid f (Said.refused n) = Said.refused n

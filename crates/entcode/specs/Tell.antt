@@ -2,7 +2,7 @@
 use Prim.Native.Nat.{ℕ, _+_, _-_, _*_, _/_, _^_}
 use Rattle.entcode.specs.Range.{ilog}
 
--- section 4.1.6.1: the bit count less the digits of the range, which are still open
+-- section 4.1.6.1, ec_tell: the bit count less the digits of the range, which are still undecided
 abbrev pub tellOf : ℕ → ℕ → ℕ
 tellOf total rng = total - ilog rng
 
@@ -26,6 +26,6 @@ eighths r = digit r * 4 + digit (rest r) * 2 + digit (rest (rest r))
 abbrev pub top : ℕ → ℕ
 top rng = rng / 2 ^ (ilog rng - 16)
 
--- the bit count less the logarithm of the range, both in eighths
+-- ec_tell_frac: the bit count less the logarithm of the range, both in eighths
 abbrev pub tellFracOf : ℕ → ℕ → ℕ
 tellFracOf total rng = 8 * total - (8 * ilog rng + eighths (top rng))

@@ -2,27 +2,26 @@
 pub mod table;
 
 ghost use mathlib.Core.Path.{_≡_};
-ghost use mathlib.Core.Bool.{Bool};
-ghost use Prim.Native.Nat.{ℕ, _≤_, _<_};
+ghost use Prim.Native.Nat.{_≤_, _<_};
 ghost use Rattle.entcode.specs.Range.{ilog};
 ghost use Rattle.entcode.specs.Tell.{tellOf, eighths, tellFracOf};
 ghost use Rattle.entcode.specs.Counts.{countsOk, tellOk};
 ghost use Rattle.entcode.specs.Refusal.{refusal, lastTwo};
 
 // How many bits, or eighths of a bit, are used; or the number of the refusal.
-pub enum Told {
-    Used(u32),
+pub enum TellAnswer {
+    Done(u32),
     Refused(u32),
 }
 
-// How many binary digits a number has.
+// EC_ILOG: how many binary digits a number has.
 pub fn ilog(n: u32) -> u32
     ensures { λ r. ⌜ (r ≡ ilog n) × (r ≤ 32) ⌝ }
 {
     32 - u32::leading_zeros(n)
 }
 
-// How many bits are used, RFC 6716, section 4.1.6.1.
+// ec_tell: how many bits are used, RFC 6716, section 4.1.6.1.
 pub fn tell_of(total: u32, rng: u32) -> u32
     ensures { λ r. ⌜ (r ≡ tellOf total rng) × (r ≤ total) ⌝ }
 {
@@ -30,8 +29,8 @@ pub fn tell_of(total: u32, rng: u32) -> u32
     if l < total { total - l } else { 0 }
 }
 
-// Entry k is the last r to which three truncated squarings give at most k eighths: one above it they give more (proofs/Logs.antt, `upto-entry`
-// and `above-entry`).
+// Entry k decides for the numbers whose top four digits are those of k + 8: up to it three truncated squarings give k eighths, above it k + 1
+// (proofs/Logs.antt, `eighth-upto` and `eighth-above`).
 const CORRECTION: [u32; 8] = [35733, 38967, 42495, 46340, 50535, 55109, 60097, 65535];
 
 // The three digits after the point of the logarithm of r / 2^15.
@@ -44,7 +43,7 @@ fn eighths_of(r: u32) -> u32
     if CORRECTION[i] < r { b + 1 } else { b }
 }
 
-// How many eighths of a bit are used, RFC 6716, section 4.1.6.2, of a state that is known to be good.
+// ec_tell_frac: how many eighths of a bit are used, RFC 6716, section 4.1.6.2, of a state that is known to be good.
 pub fn tell_frac_of(total: u32, rng: u32) -> u32
     requires { ⌜ (32768 ≤ rng) × (33 ≤ total) × (total ≤ 268435456) ⌝ }
     ensures { λ r. ⌜ r ≡ tellFracOf total rng ⌝ }
@@ -70,8 +69,8 @@ pub fn counts_ok(storage: u32, rng: u32, waiting: u32, total: u32) -> bool
 pub fn tell_ok(storage: u32, total: u32, rng: u32) -> bool
     ensures { λ r. ⌜ r ≡ tellOk storage total rng ⌝ }
 {
-    let told = tell_of(total, rng) as u64;
-    told <= 8 * (storage as u64) + 32
+    let used = tell_of(total, rng) as u64;
+    used <= 8 * (storage as u64) + 32
 }
 
 // The number of the refusal, 0 for none, in document 01's order.
@@ -79,16 +78,20 @@ pub fn refusal_of(
     lengths: bool,
     numbers: bool,
     lists: bool,
-    own: u32,
-    live: bool,
-    told: bool,
+    special: u32,
+    unclosed: bool,
+    fits: bool,
 ) -> u32
-    ensures { λ r. ⌜ r ≡ refusal lengths numbers lists own live told ⌝ }
+    ensures { λ r. ⌜ r ≡ refusal lengths numbers lists special unclosed fits ⌝ }
 {
     if lengths {
         if numbers {
             if lists {
-                if own == 0 { last_two(live, told) } else { own }
+                if special == 0 {
+                    last_two(unclosed, fits)
+                } else {
+                    special
+                }
             } else {
                 3
             }
@@ -100,9 +103,13 @@ pub fn refusal_of(
     }
 }
 
-// The two that come last: a write after close, and too much told.
-fn last_two(live: bool, told: bool) -> u32
-    ensures { λ r. ⌜ r ≡ lastTwo live told ⌝ }
+// The two that come last: a write after close (12), and a tell above its bound (4).
+fn last_two(unclosed: bool, fits: bool) -> u32
+    ensures { λ r. ⌜ r ≡ lastTwo unclosed fits ⌝ }
 {
-    if live { if told { 0 } else { 4 } } else { 12 }
+    if unclosed {
+        if fits { 0 } else { 4 }
+    } else {
+        12
+    }
 }

@@ -16,13 +16,15 @@ use Rattle.entdec.specs.Rule.{readerOk, readRefusal, refusalR}
 
 -- ---- the rule
 
+-- the tests of `readerOk`, as facts
 pub record Sound (d : Reader) : Type 0 where
   pub counts : Counts (d .storage) (d .rng) (d .waiting) (d .total)
-  pub inside : d .val < d .rng
-  pub front : d .offs ≤ d .storage
-  pub back : d .ends ≤ d .storage
-  pub held : d .rem ≤ 255
+  pub val-lt : d .val < d .rng
+  pub offs-le : d .offs ≤ d .storage
+  pub ends-le : d .ends ≤ d .storage
+  pub rem-le : d .rem ≤ 255
 
+-- from the test
 pub sound : (d : Reader) → readerOk d ≡ true → Sound d
 unfolding readerOk
 sound d h =
@@ -32,48 +34,52 @@ sound d h =
     let e = and-eq-true-iff _ _ .0 (c .0) in
     record {
       counts = counts (d .storage) (d .rng) (d .waiting) (d .total) (e .0);
-      inside = ltb-true (d .val) (d .rng) (e .1);
-      front = leb-true (d .offs) (d .storage) (c .1);
-      back = leb-true (d .ends) (d .storage) (b .1);
-      held = leb-true (d .rem) 255 (a .1);
+      val-lt = ltb-true (d .val) (d .rng) (e .1);
+      offs-le = leb-true (d .offs) (d .storage) (c .1);
+      ends-le = leb-true (d .ends) (d .storage) (b .1);
+      rem-le = leb-true (d .rem) 255 (a .1);
     }
 
+-- and back
 pub sound-ok : (d : Reader) → Sound d → readerOk d ≡ true
 unfolding readerOk
 sound-ok d f =
     simp (
       counts-ok (d .storage) (d .rng) (d .waiting) (d .total) (f .counts),
-      lt-ltb (d .val) (d .rng) (f .inside),
-      le-leb (d .offs) (d .storage) (f .front),
-      le-leb (d .ends) (d .storage) (f .back),
-      le-leb (d .rem) 255 (f .held),
+      lt-ltb (d .val) (d .rng) (f .val-lt),
+      le-leb (d .offs) (d .storage) (f .offs-le),
+      le-leb (d .ends) (d .storage) (f .ends-le),
+      le-leb (d .rem) 255 (f .rem-le),
     )
 
 -- ---- number 0
 
-pub record Open (n : ℕ) (d : Reader) (lengths numbers lists : Bool) (own : ℕ) : Type 0 where
+-- a read that no refusal stops: each of its tests, as a fact
+pub record Open (n : ℕ) (d : Reader) (lengths numbers lists : Bool) (special : ℕ) : Type 0 where
   pub whole : d .storage ≡ n
   pub sizes : lengths ≡ true
   pub state : Sound d
   pub known : numbers ≡ true
   pub entries : lists ≡ true
-  pub none : own ≡ 0
-  pub told : tellOf (d .total) (d .rng) ≤ 8 * d .storage + 32
+  pub none : special ≡ 0
+  pub tell-le : tellOf (d .total) (d .rng) ≤ 8 * d .storage + 32
 
-pub opened : (n : ℕ) (d : Reader) (lengths numbers lists : Bool) (own : ℕ) → readRefusal n d lengths numbers lists own ≡ 0 → Open n d lengths numbers lists own
+-- from the number 0
+pub opened : (n : ℕ) (d : Reader) (lengths numbers lists : Bool) (special : ℕ) → readRefusal n d lengths numbers lists special ≡ 0
+    → Open n d lengths numbers lists special
 unfolding readRefusal
-opened n d lengths numbers lists own h =
-    let p = passed (eqb (d .storage) n && lengths) (readerOk d && numbers) lists own true (tellOk (d .storage) (d .total) (d .rng)) h in
-    let a = and-eq-true-iff (eqb (d .storage) n) lengths .0 (p .two) in
-    let b = and-eq-true-iff (readerOk d) numbers .0 (p .one) in
+opened n d lengths numbers lists special h =
+    let p = passed (eqb (d .storage) n && lengths) (readerOk d && numbers) lists special true (tellOk (d .storage) (d .total) (d .rng)) h in
+    let a = and-eq-true-iff (eqb (d .storage) n) lengths .0 (p .no-2) in
+    let b = and-eq-true-iff (readerOk d) numbers .0 (p .no-1) in
     record {
       whole = eqb-true (d .storage) n (a .0);
       sizes = a .1;
       state = sound d (b .0);
       known = b .1;
-      entries = p .three;
-      none = p .none;
-      told = leb-true (tellOf (d .total) (d .rng)) (8 * d .storage + 32) (p .four);
+      entries = p .no-3;
+      none = p .no-special;
+      tell-le = leb-true (tellOf (d .total) (d .rng)) (8 * d .storage + 32) (p .no-4);
     }
 
 -- of reading one symbol

@@ -7,7 +7,8 @@ use Rattle.entcode.specs.Refusal.{refusal}
 use Rattle.entdec.specs.declared.Reader.{Reader}
 use Rattle.entdec.specs.Rule.{readRefusal}
 
-pub wrong-lengths : (n : ℕ) (d : Reader) (lengths numbers lists : Bool) (own : ℕ) → (eqb (d .storage) n && lengths) ≡ false
-    → readRefusal n d lengths numbers lists own ≡ 2
+-- the test of the lengths comes first
+pub wrong-lengths : (n : ℕ) (d : Reader) (lengths numbers lists : Bool) (special : ℕ) → (eqb (d .storage) n && lengths) ≡ false
+    → readRefusal n d lengths numbers lists special ≡ 2
 unfolding readRefusal refusal
-wrong-lengths n d lengths numbers lists own e = rw e
+wrong-lengths n d lengths numbers lists special e = rw e

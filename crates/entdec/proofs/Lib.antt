@@ -13,3 +13,4 @@ pub mod Kept
 pub mod Chain
 pub mod Same
 pub mod Values
+pub mod Promises

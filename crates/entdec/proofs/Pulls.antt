@@ -8,74 +8,82 @@ use lib.ListN.{length}
 use borrow.Author.Tests.{ltb-true}
 use Rattle.laws.specs.Lists.{Bytes}
 use Rattle.laws.proofs.Tests.{cond-le}
-use Rattle.entcode.specs.Range.{turns, wid}
-use Rattle.entcode.proofs.Turns.{scaled, turns-most}
+use Rattle.entcode.specs.Range.{renormSteps, cutWidth}
+use Rattle.entcode.proofs.RenormSteps.{scaled, steps-le}
 use Rattle.entdec.specs.declared.Reader.{Reader}
-use Rattle.entdec.specs.Read.{forth, pull, pulls, update}
+use Rattle.entdec.specs.Read.{advanced, pull, pulls, update}
 
 -- ---- the next place
 
-pub forth-le : (at n : ℕ) → forth at n ≤ at + 1
-forth-le at n = cond-le (ltb at n) (λ e. omega arith) (λ e. omega arith)
+-- at most one on
+pub advanced-le : (at n : ℕ) → advanced at n ≤ at + 1
+advanced-le at n = cond-le (ltb at n) (λ e. omega arith) (λ e. omega arith)
 
-pub forth-in : (at n : ℕ) → at ≤ n → forth at n ≤ n
-forth-in at n h = cond-le (ltb at n) (λ e. omega (arith, ltb-true at n e)) (λ e. h)
+-- and not past the end
+pub advanced-in : (at n : ℕ) → at ≤ n → advanced at n ≤ n
+advanced-in at n h = cond-le (ltb at n) (λ e. omega (arith, ltb-true at n e)) (λ e. h)
 
--- ---- k turns
+-- ---- k steps
 
+-- from d to e by k steps: each number
 pub record Pulled (s : List ℕ) (k : ℕ) (d e : Reader) : Type 0 where
-  pub size : e .rng ≡ scaled k (d .rng)
-  pub inside : d .val < d .rng → e .val < e .rng
-  pub told : e .total ≡ d .total + 8 * k
-  pub front : e .offs ≤ d .offs + k
-  pub ahead : d .offs ≤ length s → e .offs ≤ length s
-  pub held : Bytes s → d .rem ≤ 255 → e .rem ≤ 255
-  pub ends : e .ends ≡ d .ends
-  pub waiting : e .waiting ≡ d .waiting
-  pub storage : e .storage ≡ d .storage
+  pub range-is : e .rng ≡ scaled k (d .rng)
+  pub val-lt : d .val < d .rng → e .val < e .rng
+  pub total-is : e .total ≡ d .total + 8 * k
+  pub offs-le : e .offs ≤ d .offs + k
+  pub offs-in : d .offs ≤ length s → e .offs ≤ length s
+  pub rem-le : Bytes s → d .rem ≤ 255 → e .rem ≤ 255
+  pub ends-is : e .ends ≡ d .ends
+  pub waiting-is : e .waiting ≡ d .waiting
+  pub storage-is : e .storage ≡ d .storage
 
+-- step by step
 pub pulled : (k : ℕ) (s : List ℕ) (d : Reader) → Pulled s k d (pulls k s d)
 unfolding pulls pull scaled
 pulled zero s d =
     record {
-      size = refl;
-      inside = λ h. h;
-      told = omega arith;
-      front = omega arith;
-      ahead = λ h. h;
-      held = λ b h. h;
-      ends = refl;
-      waiting = refl;
-      storage = refl;
+      range-is = refl;
+      val-lt = λ h. h;
+      total-is = omega arith;
+      offs-le = omega arith;
+      offs-in = λ h. h;
+      rem-le = λ b h. h;
+      ends-is = refl;
+      waiting-is = refl;
+      storage-is = refl;
     }
 pulled (suc k) s d =
     let p = pulled k s (pull s d) in
     record {
-      size = p .size;
-      inside = λ h. p .inside (omega arith);
-      told = omega (arith, p .told);
-      front = omega (arith, p .front, forth-le (d .offs) (length s));
-      ahead = λ h. p .ahead (forth-in (d .offs) (length s) h);
-      held = λ b h. p .held b (omega (arith, b (d .offs)));
-      ends = p .ends;
-      waiting = p .waiting;
-      storage = p .storage;
+      range-is = p .range-is;
+      val-lt = λ h. p .val-lt (omega arith);
+      total-is = omega (arith, p .total-is);
+      offs-le = omega (arith, p .offs-le, advanced-le (d .offs) (length s));
+      offs-in = λ h. p .offs-in (advanced-in (d .offs) (length s) h);
+      rem-le = λ b h. p .rem-le b (omega (arith, b (d .offs)));
+      ends-is = p .ends-is;
+      waiting-is = p .waiting-is;
+      storage-is = p .storage-is;
     }
 
 -- ---- the numbers after a symbol: they do not depend on the bytes
 
 module _ (fl fh ft ext : ℕ) (s : List ℕ) (d : Reader) where
-  pub total-after : update fl fh ft ext s d .total ≡ d .total + 8 * turns (wid (d .rng) fl fh ft)
+  -- the bit count
+  pub total-after : update fl fh ft ext s d .total ≡ d .total + 8 * renormSteps (cutWidth (d .rng) fl fh ft)
   unfolding update
-  total-after = pulled (turns (wid (d .rng) fl fh ft)) s _ .told
+  total-after = pulled (renormSteps (cutWidth (d .rng) fl fh ft)) s _ .total-is
 
-  pub rng-after : update fl fh ft ext s d .rng ≡ scaled (turns (wid (d .rng) fl fh ft)) (wid (d .rng) fl fh ft)
+  -- the range
+  pub rng-after : update fl fh ft ext s d .rng ≡ scaled (renormSteps (cutWidth (d .rng) fl fh ft)) (cutWidth (d .rng) fl fh ft)
   unfolding update
-  rng-after = pulled (turns (wid (d .rng) fl fh ft)) s _ .size
+  rng-after = pulled (renormSteps (cutWidth (d .rng) fl fh ft)) s _ .range-is
 
+  -- at most three steps of eight bits
   pub total-most : update fl fh ft ext s d .total ≤ d .total + 24
-  total-most = omega (arith, total-after, turns-most (wid (d .rng) fl fh ft))
+  total-most = omega (arith, total-after, steps-le (cutWidth (d .rng) fl fh ft))
 
+  -- the place at the end stays
   pub ends-after : update fl fh ft ext s d .ends ≡ d .ends
   unfolding update
-  ends-after = pulled (turns (wid (d .rng) fl fh ft)) s _ .ends
+  ends-after = pulled (renormSteps (cutWidth (d .rng) fl fh ft)) s _ .ends-is

@@ -7,21 +7,21 @@ use lib.Dec.{leb}
 use Rattle.entcode.specs.Said.{Said, answer}
 use Rattle.entcode.specs.Said.Said.{done, refused}
 use Rattle.entdec.specs.declared.Reader.{Reader}
-use Rattle.entdec.specs.declared.Read.{Read}
-use Rattle.entdec.specs.declared.Answer.{Answer}
-use Rattle.entdec.specs.declared.Answer.the-variants.{Got, Refused}
+use Rattle.entdec.specs.declared.ReadSymbol.{ReadSymbol}
+use Rattle.entdec.specs.declared.ReadAnswer.{ReadAnswer}
+use Rattle.entdec.specs.declared.ReadAnswer.the-variants.{Done, Refused}
 use Rattle.entdec.specs.declared.Started.{Started}
 use Rattle.entdec.specs.declared.Started.the-variants as started
 use Rattle.entdec.specs.Read.{freshReader}
 
 -- what an answer of a read says
-abbrev pub said : Answer → Said Read
-said (Got y) = done y
+abbrev pub said : ReadAnswer → Said ReadSymbol
+said (Done y) = done y
 said (Refused n) = refused n
 
 -- what an answer of a start says
 abbrev pub saidStart : Started → Said Reader
-saidStart (started.At d) = done d
+saidStart (started.Done d) = done d
 saidStart (started.Refused n) = refused n
 
 -- a new reader of a packet; more than 1,275 bytes are refused as 1

@@ -3,3 +3,4 @@ pub mod Symbols
 pub mod Rule
 pub mod Answer
 pub mod Ready
+pub mod Promises

@@ -9,17 +9,17 @@ use Rattle.entcode.specs.Refusal.{refusal}
 use Rattle.entcode.specs.Sym.{Shape, lengthOk, shapeOk, listOk}
 use Rattle.entdec.specs.declared.Reader.{Reader}
 
--- the rule of a reader: the counts, its value below its range, each place at most the storage, the held byte 0..255
+-- the rule of a reader: what a writer's counts must meet too; the value is less than the range; no place is past the storage; rem is a byte
 unfoldable pub readerOk : Reader → Bool
 readerOk d =
     countsOk (d .storage) (d .rng) (d .waiting) (d .total) && ltb (d .val) (d .rng) && leb (d .offs) (d .storage)
     && leb (d .ends) (d .storage) && leb (d .rem) 255
 
--- The refusal of a call that can read symbols, 0 for none. n bytes are lent. lengths, numbers, lists and own are the call's own: its other
--- lengths, its numbers, its lists, its number from 5 to 11
+-- The refusal of a call that can read symbols, 0 for none. n bytes are lent. The call says whether its other lengths, its numbers and its
+-- lists are right, and its special refusal from 5 to 11, 0 for none
 unfoldable pub readRefusal : ℕ → Reader → Bool → Bool → Bool → ℕ → ℕ
-readRefusal n d lengths numbers lists own =
-    refusal (eqb (d .storage) n && lengths) (readerOk d && numbers) lists own true (tellOk (d .storage) (d .total) (d .rng))
+readRefusal n d lengths numbers lists special =
+    refusal (eqb (d .storage) n && lengths) (readerOk d && numbers) lists special true (tellOk (d .storage) (d .total) (d .rng))
 
 -- the refusal of reading one symbol of a kind
 unfoldable pub refusalR : Shape → List ℕ → Reader → ℕ

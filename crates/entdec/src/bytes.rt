@@ -1,7 +1,7 @@
 // Bytes of a packet by their places from its end, and the place after this one.
 ghost use mathlib.Core.Path.{_≡_};
 ghost use Prim.Native.Nat.{_<_};
-ghost use Rattle.entdec.specs.Read.{forth, byteBack};
+ghost use Rattle.entdec.specs.Read.{advanced, byteBack};
 
 // The byte at a place from the end, zero past the start.
 pub fn byte_back(s: &[u8], at: usize) -> u32
@@ -15,9 +15,9 @@ pub fn byte_back(s: &[u8], at: usize) -> u32
 }
 
 // The next place of n, which stays at the end.
-pub fn forward(at: u32, n: usize) -> u32
+pub fn advanced(at: u32, n: usize) -> u32
     requires { ⌜ at < 4294967295 ⌝ }
-    ensures { λ r. ⌜ r ≡ forth at n ⌝ }
+    ensures { λ r. ⌜ r ≡ advanced at n ⌝ }
 {
     if (at as usize) < n { at + 1 } else { at }
 }

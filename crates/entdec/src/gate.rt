@@ -27,13 +27,14 @@ impl Reader {
         (self.storage as usize == n) & lengths
     }
 
-    // The number of the refusal of a call that can read symbols, 0 for none. n bytes are lent; the rest is the call's own.
-    pub fn refusal(self, n: usize, lengths: bool, numbers: bool, lists: bool, own: u32) -> u32
-        ensures { λ r. ⌜ r ≡ readRefusal n self lengths numbers lists own ⌝ }
+    // The number of the refusal of a call that can read symbols, 0 for none. n bytes are lent; lengths, numbers, lists and special are what
+    // the call found.
+    pub fn refusal(self, n: usize, lengths: bool, numbers: bool, lists: bool, special: u32) -> u32
+        ensures { λ r. ⌜ r ≡ readRefusal n self lengths numbers lists special ⌝ }
     {
-        let told = entcode::tell_ok(self.storage, self.total, self.rng);
+        let fits = entcode::tell_ok(self.storage, self.total, self.rng);
         let known = self.sound() & numbers;
-        entcode::refusal_of(self.sized(n, lengths), known, lists, own, true, told)
+        entcode::refusal_of(self.sized(n, lengths), known, lists, special, true, fits)
     }
 
     // The number of the refusal of reading a table's symbol, 0 for none. The table is read once every length is right.

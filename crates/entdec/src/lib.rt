@@ -1,13 +1,13 @@
 // The range decoder of RFC 6716, section 4.1: a state by value, its bytes lent beside it.
 ghost use mathlib.Core.Path.{_≡_};
-ghost use Rattle.entcode.specs.Counts.{saidTold, toldOf};
+ghost use Rattle.entcode.specs.Counts.{saidTell, tellSaid};
 ghost use Rattle.entcode.specs.Said.{answer};
 ghost use Rattle.entcode.specs.Sym.Shape.{bit, table, uint, raw};
 ghost use Rattle.entcode.specs.Tell.{tellOf, tellFracOf};
 ghost use Rattle.entdec.specs.Answer.{said, saidStart, startOf};
 ghost use Rattle.entdec.specs.Rule.{readerOk, refusalR};
 ghost use Rattle.entdec.specs.Symbols.{readSym};
-use entcode::Told;
+use entcode::TellAnswer;
 
 mod bytes;
 pub mod gate;
@@ -30,20 +30,20 @@ pub struct Reader {
 }
 
 // A value read, and the state after it.
-pub struct Read {
+pub struct ReadSymbol {
     pub value: u32,
     pub next: Reader,
 }
 
 // What a public read answers: what was read, or the number of the refusal.
-pub enum Answer {
-    Got(Read),
+pub enum ReadAnswer {
+    Done(ReadSymbol),
     Refused(u32),
 }
 
 // A new reader, or the number of the refusal.
 pub enum Started {
-    At(Reader),
+    Done(Reader),
     Refused(u32),
 }
 
@@ -55,7 +55,7 @@ impl Reader {
         let n = s.len();
         if n <= 1275 {
             let b = laws::byte_at(s, 0);
-            let at = bytes::forward(0, n);
+            let at = bytes::advanced(0, n);
             let d = Reader {
                 storage: n as u32,
                 offs: at,
@@ -69,80 +69,80 @@ impl Reader {
                 rem: b,
                 error: false,
             };
-            Started::At(d.normalize(s))
+            Started::Done(d.normalize(s))
         } else {
             Started::Refused(1)
         }
     }
 
     // One bit that is 1 with a probability of 1 in 2^logp, section 4.1.3.2.
-    pub fn bit_logp(self, s: &[u8], logp: u32) -> Answer
+    pub fn bit_logp(self, s: &[u8], logp: u32) -> ReadAnswer
         ensures { λ r. ⌜ said r ≡ answer (refusalR (bit logp) (now (s .entry)) self) (readSym (bit logp) (now (s .entry)) self) ⌝ }
     {
         let n = self.refusal(s.len(), true, (1 <= logp) & (logp <= 15), true, 0);
         if n == 0 {
-            Answer::Got(self.bit(s, logp))
+            ReadAnswer::Done(self.bit(s, logp))
         } else {
-            Answer::Refused(n)
+            ReadAnswer::Refused(n)
         }
     }
 
     // A symbol of a table of 2^ftb places, section 4.1.3.3.
-    pub fn icdf(self, s: &[u8], t: &[u8], ftb: u32) -> Answer
+    pub fn icdf(self, s: &[u8], t: &[u8], ftb: u32) -> ReadAnswer
         ensures { λ r.
             ⌜ said r ≡ answer (refusalR (table (now (t .entry)) ftb) (now (s .entry)) self) (readSym (table (now (t .entry)) ftb) (now (s .entry)) self) ⌝ }
     {
         let n = self.refusal_table(s.len(), t, ftb);
         if n == 0 {
-            Answer::Got(self.symbol(s, t, ftb))
+            ReadAnswer::Done(self.symbol(s, t, ftb))
         } else {
-            Answer::Refused(n)
+            ReadAnswer::Refused(n)
         }
     }
 
     // A number below ft, all alike, section 4.1.5.
-    pub fn uint(self, s: &[u8], ft: u32) -> Answer
+    pub fn uint(self, s: &[u8], ft: u32) -> ReadAnswer
         ensures { λ r. ⌜ said r ≡ answer (refusalR (uint ft) (now (s .entry)) self) (readSym (uint ft) (now (s .entry)) self) ⌝ }
     {
         let n = self.refusal(s.len(), true, (2 <= ft) & (ft <= 4294967295), true, 0);
         if n == 0 {
-            Answer::Got(self.uniform(s, ft))
+            ReadAnswer::Done(self.uniform(s, ft))
         } else {
-            Answer::Refused(n)
+            ReadAnswer::Refused(n)
         }
     }
 
     // n raw bits from the end of the packet, section 4.1.4.
-    pub fn bits(self, s: &[u8], n: u32) -> Answer
+    pub fn bits(self, s: &[u8], n: u32) -> ReadAnswer
         ensures { λ r. ⌜ said r ≡ answer (refusalR (raw n) (now (s .entry)) self) (readSym (raw n) (now (s .entry)) self) ⌝ }
     {
         let no = self.refusal(s.len(), true, (1 <= n) & (n <= 25), true, 0);
         if no == 0 {
-            Answer::Got(self.raw(s, n))
+            ReadAnswer::Done(self.raw(s, n))
         } else {
-            Answer::Refused(no)
+            ReadAnswer::Refused(no)
         }
     }
 
     // How many bits are used, section 4.1.6.1.
-    pub fn tell(self) -> Told
-        ensures { λ r. ⌜ saidTold r ≡ toldOf (readerOk self) (tellOf (self .total) (self .rng)) ⌝ }
+    pub fn tell(self) -> TellAnswer
+        ensures { λ r. ⌜ saidTell r ≡ tellSaid (readerOk self) (tellOf (self .total) (self .rng)) ⌝ }
     {
         if self.sound() {
-            Told::Used(entcode::tell_of(self.total, self.rng))
+            TellAnswer::Done(entcode::tell_of(self.total, self.rng))
         } else {
-            Told::Refused(1)
+            TellAnswer::Refused(1)
         }
     }
 
     // How many eighths of a bit are used, section 4.1.6.2.
-    pub fn tell_frac(self) -> Told
-        ensures { λ r. ⌜ saidTold r ≡ toldOf (readerOk self) (tellFracOf (self .total) (self .rng)) ⌝ }
+    pub fn tell_frac(self) -> TellAnswer
+        ensures { λ r. ⌜ saidTell r ≡ tellSaid (readerOk self) (tellFracOf (self .total) (self .rng)) ⌝ }
     {
         if self.sound() {
-            Told::Used(entcode::tell_frac_of(self.total, self.rng))
+            TellAnswer::Done(entcode::tell_frac_of(self.total, self.rng))
         } else {
-            Told::Refused(1)
+            TellAnswer::Refused(1)
         }
     }
 }

@@ -1,20 +1,20 @@
 // The reads of a state that is known to be good: RFC 6716, sections 4.1.2 to 4.1.5. They test nothing; the public calls do.
 ghost use mathlib.Core.Path.{_≡_};
 ghost use mathlib.Core.Bool.{true};
-ghost use Prim.Native.Nat.{_+_, _-_, _*_, _/_, _^_, _≤_, _<_};
+ghost use Prim.Native.Nat.{_-_, _/_, _^_, _≤_, _<_};
 ghost use lib.ListN.{length};
-ghost use Rattle.entcode.specs.Range.{turns};
+ghost use Rattle.entcode.specs.Range.{renormSteps};
 ghost use Rattle.entcode.specs.Sym.{falls, flatModel};
 ghost use Rattle.entcode.specs.Sym.Shape.{bit, table, uint, raw};
-ghost use Rattle.entdec.specs.Read.{withRange, withRaw, pull, pulls, place, update, fetch, fetches, shed};
+ghost use Rattle.entdec.specs.Read.{withRange, withRaw, pull, pulls, decodedPlace, update, fetch, fetches, shed};
 ghost use Rattle.entdec.specs.Symbols.{readOne, readLong, readSym};
-ghost use Rattle.entdec.specs.Ready.{Ready, Live};
-use super::Read;
+ghost use Rattle.entdec.specs.Ready.{Ready, MidSymbol};
+use super::ReadSymbol;
 use super::Reader;
 use super::bytes;
 
 impl Reader {
-    // Section 4.1.2.1, one turn: eight bits come in.
+    // Section 4.1.2.1, one step of ec_dec_normalize: eight bits come in.
     fn pull(mut self, s: &[u8]) -> Self
         requires { ⌜ (self .val < self .rng) × (self .rng ≤ 8388608) × (self .total < 4294967000) × (self .offs < 4294967295) ⌝ }
         ensures { λ r. ⌜ r ≡ pull (now (s .entry)) self ⌝ }
@@ -22,7 +22,7 @@ impl Reader {
         let b = laws::byte_at(s, self.offs as usize);
         self.val = self.val * 256 + (255 - (self.rem % 2 * 128 + b / 2));
         self.rng = self.rng * 256;
-        self.offs = bytes::forward(self.offs, s.len());
+        self.offs = bytes::advanced(self.offs, s.len());
         self.rem = b;
         self.total = self.total + 8;
         self
@@ -30,8 +30,8 @@ impl Reader {
 
     // Section 4.1.2.1: until the range is above 2^23.
     pub fn normalize(mut self, s: &[u8]) -> Self
-        requires { ⌜ Live self ⌝ }
-        ensures { λ r. ⌜ r ≡ pulls (turns (self .rng)) (now (s .entry)) self ⌝ }
+        requires { ⌜ MidSymbol self ⌝ }
+        ensures { λ r. ⌜ r ≡ pulls (renormSteps (self .rng)) (now (s .entry)) self ⌝ }
     {
         while self.rng <= 8388608 {
             self = self.pull(s);
@@ -41,8 +41,8 @@ impl Reader {
 
     // The range and the value become those of the symbol that is read, and the range is brought above 2^23.
     fn narrow(mut self, s: &[u8], rng: u32, val: u32, ext: u32) -> Self
-        requires { ⌜ Live (withRange self (self .offs) rng val ext (self .rem) (self .total)) ⌝ }
-        ensures { λ r. ⌜ r ≡ pulls (turns rng) (now (s .entry)) (withRange self (self .offs) rng val ext (self .rem) (self .total)) ⌝ }
+        requires { ⌜ MidSymbol (withRange self (self .offs) rng val ext (self .rem) (self .total)) ⌝ }
+        ensures { λ r. ⌜ r ≡ pulls (renormSteps rng) (now (s .entry)) (withRange self (self .offs) rng val ext (self .rem) (self .total)) ⌝ }
     {
         self.rng = rng;
         self.val = val;
@@ -51,18 +51,18 @@ impl Reader {
     }
 
     // Section 4.1.2, first step: the place in 0..ft - 1 that the value shows.
-    pub fn place(self, ft: u32) -> u32
+    pub fn decoded_place(self, ft: u32) -> u32
         requires { ⌜ (0 < ft) × (ft ≤ self .rng) × (self .val < self .rng) ⌝ }
-        ensures { λ r. ⌜ (r ≡ place ft self) × (r < ft) ⌝ }
+        ensures { λ r. ⌜ (r ≡ decodedPlace ft self) × (r < ft) ⌝ }
     {
         let k = self.val / (self.rng / ft) + 1;
         if k < ft { ft - k } else { 0 }
     }
 
     // Section 4.1.2, second step: the symbol of the places fl up to fh of ft is taken, among which the value shows one.
-    pub fn take(self, s: &[u8], fl: u32, fh: u32, ft: u32, ext: u32) -> Self
+    pub fn update(self, s: &[u8], fl: u32, fh: u32, ft: u32, ext: u32) -> Self
         requires { ⌜ Ready 1 self ⌝ }
-        requires { ⌜ (fl < fh) × (fh ≤ ft) × (ft ≤ 32768) × (fl ≤ place ft self) × (place ft self < fh) ⌝ }
+        requires { ⌜ (fl < fh) × (fh ≤ ft) × (ft ≤ 32768) × (fl ≤ decodedPlace ft self) × (decodedPlace ft self < fh) ⌝ }
         ensures { λ r. ⌜ r ≡ update fl fh ft ext (now (s .entry)) self ⌝ }
     {
         let q = self.rng / ft;
@@ -75,7 +75,7 @@ impl Reader {
     }
 
     // Section 4.1.3.2: a bit that is 1 in one of 2^logp places.
-    pub fn bit(self, s: &[u8], logp: u32) -> Read
+    pub fn bit(self, s: &[u8], logp: u32) -> ReadSymbol
         requires { ⌜ Ready 1 self ⌝ }
         requires { ⌜ (1 ≤ logp) × (logp ≤ 15) ⌝ }
         ensures { λ r. ⌜ r ≡ readSym (bit logp) (now (s .entry)) self ⌝ }
@@ -83,12 +83,12 @@ impl Reader {
         let q = self.rng >> logp;
         let ext = self.ext;
         if self.val < q {
-            Read {
+            ReadSymbol {
                 value: 1,
                 next: self.narrow(s, q, self.val, ext),
             }
         } else {
-            Read {
+            ReadSymbol {
                 value: 0,
                 next: self.narrow(s, self.rng - q, self.val - q, ext),
             }
@@ -96,7 +96,7 @@ impl Reader {
     }
 
     // Section 4.1.3.3: a symbol of a table, whose entries say how many of the 2^ftb places are above each symbol.
-    pub fn symbol(self, s: &[u8], t: &[u8], ftb: u32) -> Read
+    pub fn symbol(self, s: &[u8], t: &[u8], ftb: u32) -> ReadSymbol
         requires { ⌜ Ready 1 self ⌝ }
         requires { ⌜ (1 ≤ ftb) × (ftb ≤ 8) ⌝ }
         requires { ⌜ (0 < length (now t)) × (falls (2 ^ ftb) (now t) ≡ true) ⌝ }
@@ -112,7 +112,7 @@ impl Reader {
             k += 1;
             lo = q * laws::wide(t[k]);
         }
-        Read {
+        ReadSymbol {
             value: k as u32,
             next: self.narrow(s, hi - lo, v - lo, self.ext),
         }
@@ -124,7 +124,7 @@ impl Reader {
         ensures { λ r. ⌜ r ≡ fetch (now (s .entry)) self ⌝ }
     {
         let b = bytes::byte_back(s, self.ends as usize);
-        self.ends = bytes::forward(self.ends, s.len());
+        self.ends = bytes::advanced(self.ends, s.len());
         self.window = self.window | (b << self.waiting);
         self.waiting = self.waiting + 8;
         self
@@ -142,7 +142,7 @@ impl Reader {
     }
 
     // The lowest n bits of the window.
-    fn shed(mut self, n: u32) -> Read
+    fn shed(mut self, n: u32) -> ReadSymbol
         requires { ⌜ (n ≤ 25) × (n ≤ self .waiting) × (self .total ≤ 1048576) ⌝ }
         ensures { λ r. ⌜ r ≡ shed n self ⌝ }
     {
@@ -150,11 +150,11 @@ impl Reader {
         self.window = self.window >> n;
         self.waiting = self.waiting - n;
         self.total = self.total + n;
-        Read { value, next: self }
+        ReadSymbol { value, next: self }
     }
 
     // Section 4.1.4: n raw bits.
-    pub fn raw(self, s: &[u8], n: u32) -> Read
+    pub fn raw(self, s: &[u8], n: u32) -> ReadSymbol
         requires { ⌜ (n ≤ 25) × (self .ends ≤ 1048576) × (self .total ≤ 1048576) ⌝ }
         ensures { λ r. ⌜ r ≡ readSym (raw n) (now (s .entry)) self ⌝ }
     {
@@ -166,15 +166,15 @@ impl Reader {
     }
 
     // Section 4.1.5, at most eight bits: one of ft places. The quotient is kept.
-    fn flat(self, s: &[u8], ft: u32) -> Read
+    fn flat(self, s: &[u8], ft: u32) -> ReadSymbol
         requires { ⌜ Ready 1 self ⌝ }
         requires { ⌜ (2 ≤ ft) × (ft ≤ 256) ⌝ }
         ensures { λ r. ⌜ r ≡ readOne (flatModel ft) (now (s .entry)) self ⌝ }
     {
-        let f = self.place(ft);
-        Read {
+        let f = self.decoded_place(ft);
+        ReadSymbol {
             value: f,
-            next: self.take(s, f, f + 1, ft, self.rng / ft),
+            next: self.update(s, f, f + 1, ft, self.rng / ft),
         }
     }
 
@@ -187,7 +187,7 @@ impl Reader {
     }
 
     // Section 4.1.5: a number up to m, the b lowest of its digits raw. A value past m is m, with the mark.
-    fn long(self, s: &[u8], m: u32, b: u32) -> Read
+    fn long(self, s: &[u8], m: u32, b: u32) -> ReadSymbol
         requires { ⌜ Ready 1 self ⌝ }
         requires { ⌜ (b ≤ 24) × (1 ≤ m / 2 ^ b) × (m / 2 ^ b < 256) ⌝ }
         ensures { λ r. ⌜ r ≡ readLong m b (now (s .entry)) self ⌝ }
@@ -199,9 +199,9 @@ impl Reader {
         let next = z.next;
         let v = (top << b) + z.value;
         if v <= m {
-            Read { value: v, next }
+            ReadSymbol { value: v, next }
         } else {
-            Read {
+            ReadSymbol {
                 value: m,
                 next: next.marked(),
             }
@@ -209,7 +209,7 @@ impl Reader {
     }
 
     // Section 4.1.5: a number below ft.
-    pub fn uniform(self, s: &[u8], ft: u32) -> Read
+    pub fn uniform(self, s: &[u8], ft: u32) -> ReadSymbol
         requires { ⌜ Ready 1 self ⌝ }
         requires { ⌜ 2 ≤ ft ⌝ }
         ensures { λ r. ⌜ r ≡ readSym (uint ft) (now (s .entry)) self ⌝ }

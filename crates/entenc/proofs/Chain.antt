@@ -5,154 +5,166 @@ use native.Mathlib.Omega.{arith}
 use lib.Dec.{leb, eqb}
 use borrow.Author.Tests.{leb-true}
 use Rattle.laws.proofs.Tests.{split-on}
-use Rattle.entcode.specs.Range.{turns, off, wid}
-use Rattle.entcode.specs.Sym.{Shape, lowBits, partsOf, adjust}
-use Rattle.entcode.specs.Sym.Shape.{bit, table, uint, raw, one}
-use Rattle.entcode.proofs.Turns.{turn-ind, turns-most}
+use Rattle.entcode.specs.Range.{renormSteps, cutStart, cutWidth}
+use Rattle.entcode.specs.Sym.{Shape, lowBits, piecesOf, adjust}
+use Rattle.entcode.specs.Sym.Shape.{bit, table, uint, raw, modelled}
+use Rattle.entcode.proofs.RenormSteps.{steps-ind, steps-le}
 use Rattle.entcode.proofs.Cuts.{CutOk, cut-in}
-use Rattle.entcode.proofs.Parts.{BitsOk, PartsOk}
-use Rattle.entout.specs.Carry.{settled}
-use Rattle.entout.proofs.Outs.{flushed-fit}
-use Rattle.entout.proofs.Keeping.{emit-keeps, flush-keeps}
+use Rattle.entcode.proofs.Pieces.{BitsOk, PiecesOk}
+use Rattle.entenc_sink.specs.Carry.{settled}
+use Rattle.entenc_sink.proofs.Outs.{flushed-fit}
+use Rattle.entenc_sink.proofs.Keeping.{emit-keeps, flush-keeps}
 use Rattle.entenc.specs.Write.{Wr, outOf, shiftW, shiftsW, narrowed, cutW, flushW, toppedW, bitsW}
-use Rattle.entenc.specs.Symbols.{writeParts, writeSym}
-use Rattle.entenc.specs.Ready.{Turning, Sound, Ready}
-use Rattle.entenc.proofs.Shifts.{run-le, turning-less, turning-step, turning-narrow}
+use Rattle.entenc.specs.Symbols.{writePieces, writeSym}
+use Rattle.entenc.specs.Ready.{Renormalizing, Sound, Ready}
+use Rattle.entenc.proofs.Shifts.{run-le, renorm-fewer, renorm-step, renorm-narrow}
 
--- ---- from w to w′ by at most `more` bits, and `run` bytes more that are held
+-- ---- at most `more` bits, and `run` bytes more that are held
 
+-- from w to w′: a writer between two symbols, over as much storage, with counts that grew by little
 pub record Stepped (more run : ℕ) (w w′ : Wr) : Type 0 where
   pub sound : Sound w′
-  pub storage : w′ .st .sink .storage ≡ w .st .sink .storage
-  pub least : w .st .total ≤ w′ .st .total
-  pub total : w′ .st .total ≤ w .st .total + more
-  pub ext : w′ .st .ext ≤ w .st .ext + run
+  pub storage-is : w′ .st .sink .storage ≡ w .st .sink .storage
+  pub total-ge : w .st .total ≤ w′ .st .total
+  pub total-le : w′ .st .total ≤ w .st .total + more
+  pub ext-le : w′ .st .ext ≤ w .st .ext + run
   -- a byte that is held has cost eight bits
   pub paid : 8 * w′ .st .ext + w .st .total ≤ 8 * w .st .ext + w′ .st .total
 
+-- one after another
 pub stepped-then : (a b c d : ℕ) (u v w : Wr) → Stepped a b u v → Stepped c d v w → Stepped (a + c) (b + d) u w
 stepped-then a b c d u v w p q =
     record {
       sound = q .sound;
-      storage = q .storage ∙ p .storage;
-      least = omega (arith, p .least, q .least);
-      total = omega (arith, p .total, q .total);
-      ext = omega (arith, p .ext, q .ext);
+      storage-is = q .storage-is ∙ p .storage-is;
+      total-ge = omega (arith, p .total-ge, q .total-ge);
+      total-le = omega (arith, p .total-le, q .total-le);
+      ext-le = omega (arith, p .ext-le, q .ext-le);
       paid = omega (arith, p .paid, q .paid);
     }
 
+-- larger bounds
 pub stepped-more : (a b c d : ℕ) (w w′ : Wr) → a ≤ c → b ≤ d → Stepped a b w w′ → Stepped c d w w′
 stepped-more a b c d w w′ h k p =
     record {
       sound = p .sound;
-      storage = p .storage;
-      least = p .least;
-      total = omega (arith, p .total);
-      ext = omega (arith, p .ext);
+      storage-is = p .storage-is;
+      total-ge = p .total-ge;
+      total-le = omega (arith, p .total-le);
+      ext-le = omega (arith, p .ext-le);
       paid = p .paid;
     }
 
--- ---- the turns of renormalization
+-- ---- the steps of renormalization
 
--- what turns need, and what they do not touch
+-- what k steps need, and what they do not touch
 record Scaling (k : ℕ) (w : Wr) : Type 0 where
-  turning : Turning k w
-  storage : w .st .sink .storage ≤ 1275
-  waiting : w .st .waiting ≤ 32
+  ahead : Renormalizing k w
+  storage-le : w .st .sink .storage ≤ 1275
+  waiting-le : w .st .waiting ≤ 32
 
-turn-none : (w : Wr) → 8388608 < w .st .rng → Scaling 0 w → Stepped 0 0 w w
-turn-none w h s =
-    let t = s .turning in
+-- no step is due
+step-none : (w : Wr) → 8388608 < w .st .rng → Scaling 0 w → Stepped 0 0 w w
+step-none w h s =
+    let t = s .ahead in
     record {
       sound =
           record {
             fit = t .fit;
-            storage = s .storage;
-            low = h;
-            most = t .most;
-            top = t .top;
-            rem = t .rem;
-            waiting = s .waiting;
+            storage-le = s .storage-le;
+            range-gt = h;
+            range-le = t .range-le;
+            end-lt = t .end-lt;
+            rem-le = t .rem-le;
+            waiting-le = s .waiting-le;
           };
-      storage = refl;
-      least = omega arith;
-      total = omega arith;
-      ext = omega arith;
+      storage-is = refl;
+      total-ge = omega arith;
+      total-le = omega arith;
+      ext-le = omega arith;
       paid = omega arith;
     }
 
-turn-scaling : (k : ℕ) (w : Wr) → w .st .rng ≤ 8388608 → Scaling (suc k) w → Scaling k (shiftW w)
+-- one step keeps what they need
+step-scaling : (k : ℕ) (w : Wr) → w .st .rng ≤ 8388608 → Scaling (suc k) w → Scaling k (shiftW w)
 unfolding shiftW
-turn-scaling k w h s =
+step-scaling k w h s =
     record {
-      turning = turning-step k w (s .turning) h;
-      storage = omega (arith, emit-keeps (settled (w .st .rem) (w .st .ext) (w .st .val / 8388608)) (outOf w) .storage, s .storage);
-      waiting = s .waiting;
+      ahead = renorm-step k w (s .ahead) h;
+      storage-le = omega (arith, emit-keeps (settled (w .st .rem) (w .st .ext) (w .st .val / 8388608)) (outOf w) .storage, s .storage-le);
+      waiting-le = s .waiting-le;
     }
 
-turn-one : (k : ℕ) (w w′ : Wr) → Stepped (8 * k) k (shiftW w) w′ → Stepped (8 * suc k) (suc k) w w′
+-- one step adds eight bits, and at most one byte to the run
+step-one : (k : ℕ) (w w′ : Wr) → Stepped (8 * k) k (shiftW w) w′ → Stepped (8 * suc k) (suc k) w w′
 unfolding shiftW
-turn-one k w w′ p =
+step-one k w w′ p =
     record {
       sound = p .sound;
-      storage = p .storage ∙ emit-keeps (settled (w .st .rem) (w .st .ext) (w .st .val / 8388608)) (outOf w) .storage;
-      least = omega (arith, p .least);
-      total = omega (arith, p .total);
-      ext = omega (arith, p .ext, run-le (w .st .ext) (w .st .val / 8388608));
+      storage-is = p .storage-is ∙ emit-keeps (settled (w .st .rem) (w .st .ext) (w .st .val / 8388608)) (outOf w) .storage;
+      total-ge = omega (arith, p .total-ge);
+      total-le = omega (arith, p .total-le);
+      ext-le = omega (arith, p .ext-le, run-le (w .st .ext) (w .st .val / 8388608));
       paid = omega (arith, p .paid, run-le (w .st .ext) (w .st .val / 8388608));
     }
 
+-- the range after a step
 shift-size : (w : Wr) (r : ℕ) → w .st .rng ≡ r → shiftW w .st .rng ≡ r * 256
 unfolding shiftW
 shift-size w r e = ap (λ (n : ℕ). n * 256) e
 
-turn-step : (k r : ℕ) → 0 < r → r ≤ 8388608
+-- one step and then the others
+step-more : (k r : ℕ) → 0 < r → r ≤ 8388608
     → ((w : Wr) → w .st .rng ≡ r * 256 → Scaling k w → Stepped (8 * k) k w (shiftsW k w))
     → (w : Wr) → w .st .rng ≡ r → Scaling (suc k) w → Stepped (8 * suc k) (suc k) w (shiftsW (suc k) w)
 unfolding shiftsW
-turn-step k r p q f w e s =
+step-more k r p q f w e s =
     let h : w .st .rng ≤ 8388608 = omega arith in
-    turn-one k w (shiftsW k (shiftW w)) (f (shiftW w) (shift-size w r e) (turn-scaling k w h s))
+    step-one k w (shiftsW k (shiftW w)) (f (shiftW w) (shift-size w r e) (step-scaling k w h s))
 
-turns-stepped : (w : Wr) → Scaling (turns (w .st .rng)) w
-    → Stepped (8 * turns (w .st .rng)) (turns (w .st .rng)) w (shiftsW (turns (w .st .rng)) w)
+-- all steps that a range takes
+steps-stepped : (w : Wr) → Scaling (renormSteps (w .st .rng)) w
+    → Stepped (8 * renormSteps (w .st .rng)) (renormSteps (w .st .rng)) w (shiftsW (renormSteps (w .st .rng)) w)
 unfolding shiftsW
-turns-stepped w s =
-    turn-ind (λ k r. (w : Wr) → w .st .rng ≡ r → Scaling k w → Stepped (8 * k) k w (shiftsW k w))
-    (λ r h m w e s. turn-none w (omega arith) s)
-    turn-step (w .st .rng) (s .turning .some) (s .turning .most) w refl s
+steps-stepped w s =
+    steps-ind (λ k r. (w : Wr) → w .st .rng ≡ r → Scaling k w → Stepped (8 * k) k w (shiftsW k w))
+    (λ r h m w e s. step-none w (omega arith) s)
+    step-more (w .st .rng) (s .ahead .range-pos) (s .ahead .range-le) w refl s
 
--- ---- each part
+-- ---- each piece
 
 module _ (fl fh ft : ℕ) (w : Wr) (ok : CutOk fl fh ft) (r : Ready 1 w) where
   abbrev within : Wr
-  within = narrowed (off (w .st .rng) fl ft) (wid (w .st .rng) fl fh ft) w
+  within = narrowed (cutStart (w .st .rng) fl ft) (cutWidth (w .st .rng) fl fh ft) w
 
-  cut-scaling : Scaling (turns (wid (w .st .rng) fl fh ft)) within
+  -- a cut leaves at most three steps
+  cut-scaling : Scaling (renormSteps (cutWidth (w .st .rng) fl fh ft)) within
   cut-scaling =
-      let c = cut-in (w .st .rng) fl fh ft ok (r .sound .low) in
-      let t = turning-narrow (off (w .st .rng) fl ft) (wid (w .st .rng) fl fh ft) w r (c .some) (omega (arith, c .sum)) in
+      let c = cut-in (w .st .rng) fl fh ft ok (r .sound .range-gt) in
+      let t = renorm-narrow (cutStart (w .st .rng) fl ft) (cutWidth (w .st .rng) fl fh ft) w r (c .width-pos) (omega (arith, c .sum)) in
       record {
-        turning = turning-less (turns (wid (w .st .rng) fl fh ft)) 3 within (turns-most (wid (w .st .rng) fl fh ft)) t;
-        storage = r .sound .storage;
-        waiting = r .sound .waiting;
+        ahead = renorm-fewer (renormSteps (cutWidth (w .st .rng) fl fh ft)) 3 within (steps-le (cutWidth (w .st .rng) fl fh ft)) t;
+        storage-le = r .sound .storage-le;
+        waiting-le = r .sound .waiting-le;
       }
 
+  -- a cut takes at most three steps
   pub cut-stepped : Stepped 24 3 w (cutW fl fh ft w)
   unfolding cutW
   cut-stepped =
-      let m = turns-most (wid (w .st .rng) fl fh ft) in
-      let p = turns-stepped within cut-scaling in
+      let m = steps-le (cutWidth (w .st .rng) fl fh ft) in
+      let p = steps-stepped within cut-scaling in
       record {
         sound = p .sound;
-        storage = p .storage;
-        least = p .least;
-        total = omega (arith, p .total);
-        ext = omega (arith, p .ext);
+        storage-is = p .storage-is;
+        total-ge = p .total-ge;
+        total-le = omega (arith, p .total-le);
+        ext-le = omega (arith, p .ext-le);
         paid = p .paid;
       }
 
 module _ (b v : ℕ) (w : Wr) (ok : BitsOk b v) (s : Sound w) where
+  -- k whole bytes go out first
   bits-at : (k : ℕ) → w .st .waiting - 8 * k + b ≤ 32 → Stepped 25 0 w (toppedW b v (flushW k w))
   bits-at k h =
       let e = flush-keeps k (w .st .window) (outOf w) .storage in
@@ -160,70 +172,64 @@ module _ (b v : ℕ) (w : Wr) (ok : BitsOk b v) (s : Sound w) where
         sound =
             record {
               fit = flushed-fit k (w .st .window) (outOf w) (s .fit);
-              storage = omega (arith, s .storage);
-              low = s .low;
-              most = s .most;
-              top = s .top;
-              rem = s .rem;
-              waiting = h;
+              storage-le = omega (arith, s .storage-le);
+              range-gt = s .range-gt;
+              range-le = s .range-le;
+              end-lt = s .end-lt;
+              rem-le = s .rem-le;
+              waiting-le = h;
             };
-        storage = e;
-        least = omega arith;
-        total = omega (arith, ok .most);
-        ext = omega arith;
+        storage-is = e;
+        total-ge = omega arith;
+        total-le = omega (arith, ok .bits-le);
+        ext-le = omega arith;
         paid = omega arith;
       }
 
+  -- raw bits: beside those that wait, or once whole bytes went out
   pub bits-stepped : Stepped 25 0 w (bitsW b v w)
   unfolding bitsW
   bits-stepped =
       split-on (leb (w .st .waiting + b) 32)
       (λ t. simp t (bits-at 0 (omega (arith, leb-true (w .st .waiting + b) 32 t))))
-      (λ t. simp t (bits-at (w .st .waiting / 8) (omega (arith, ok .most))))
+      (λ t. simp t (bits-at (w .st .waiting / 8) (omega (arith, ok .bits-le))))
 
 -- ---- a symbol of any kind
 
+-- ready for more is ready for fewer
 pub ready-less : (k m : ℕ) (w : Wr) → k ≤ m → Ready m w → Ready k w
-ready-less k m w h r = record { sound = r .sound; ext = omega (arith, r .ext); total = omega (arith, r .total) }
+ready-less k m w h r = record { sound = r .sound; ext-le = omega (arith, r .ext-le); total-le = omega (arith, r .total-le) }
 
 -- after a cut there is room for raw bits of the same symbol
 pub ready-cut : (fl fh ft : ℕ) (w w′ : Wr) → CutOk fl fh ft → Ready 1 w → w′ ≡ cutW fl fh ft w → Ready 0 w′
 ready-cut fl fh ft w w′ ok r e =
     let p = cut-stepped fl fh ft w ok r in
-    rw e (record { sound = p .sound; ext = omega (arith, p .ext, r .ext); total = omega (arith, p .total, r .total) })
+    rw e (record { sound = p .sound; ext-le = omega (arith, p .ext-le, r .ext-le); total-le = omega (arith, p .total-le, r .total-le) })
 
-parts-two : (fl fh ft b v : ℕ) (w : Wr) → CutOk fl fh ft → BitsOk b v → Ready 1 w → Stepped 49 3 w (bitsW b v (cutW fl fh ft w))
-parts-two fl fh ft b v w c o r =
+-- a cut and raw bits
+pieces-two : (fl fh ft b v : ℕ) (w : Wr) → CutOk fl fh ft → BitsOk b v → Ready 1 w → Stepped 49 3 w (bitsW b v (cutW fl fh ft w))
+pieces-two fl fh ft b v w c o r =
     let p = cut-stepped fl fh ft w c r in
     stepped-then 24 3 25 0 w (cutW fl fh ft w) (bitsW b v (cutW fl fh ft w)) p (bits-stepped b v (cutW fl fh ft w) o (p .sound))
 
+-- a symbol of one cut
 cut-whole : (fl fh ft : ℕ) (w : Wr) → CutOk fl fh ft → Ready 1 w → Stepped 49 3 w (cutW fl fh ft w)
 cut-whole fl fh ft w c r = stepped-more 24 3 49 3 w (cutW fl fh ft w) (omega arith) (omega arith) (cut-stepped fl fh ft w c r)
 
-pub sym-stepped : (h : Shape) (v : ℕ) (w : Wr) → PartsOk (partsOf h (adjust h v)) → Ready 1 w → Stepped 49 3 w (writeSym h v w)
-unfolding writeParts partsOf adjust
+-- by the kind
+pub sym-stepped : (h : Shape) (v : ℕ) (w : Wr) → PiecesOk (piecesOf h (adjust h v)) → Ready 1 w → Stepped 49 3 w (writeSym h v w)
+unfolding writePieces piecesOf adjust
 sym-stepped (bit k) v w p r = cut-whole _ _ _ w (p .0) r
 sym-stepped (table t k) v w p r = cut-whole _ _ _ w (p .0) r
 sym-stepped (uint ft) v w p r =
     split-on (eqb (lowBits ft) 0)
     (λ t. simp t (cut-whole _ _ _ w ((simp t at p) .0) r))
-    (λ t. simp t (parts-two _ _ _ _ _ w ((simp t at p) .0) ((simp t at p) .1 .0) r))
+    (λ t. simp t (pieces-two _ _ _ _ _ w ((simp t at p) .0) ((simp t at p) .1 .0) r))
 sym-stepped (raw b) v w p r = stepped-more 25 0 49 3 w (bitsW b v w) (omega arith) (omega arith) (bits-stepped b v w (p .0) (r .sound))
-sym-stepped (one m) v w p r = cut-whole _ _ _ w (p .0) r
+sym-stepped (modelled m) v w p r = cut-whole _ _ _ w (p .0) r
 
 -- workers can be chained: what a symbol needs of the writer, it leaves for the next
-pub ready-after : (k : ℕ) (h : Shape) (v : ℕ) (w : Wr) → PartsOk (partsOf h (adjust h v)) → Ready (suc k) w → Ready k (writeSym h v w)
+pub ready-after : (k : ℕ) (h : Shape) (v : ℕ) (w : Wr) → PiecesOk (piecesOf h (adjust h v)) → Ready (suc k) w → Ready k (writeSym h v w)
 ready-after k h v w p r =
     let s = sym-stepped h v w p (ready-less 1 (suc k) w (omega arith) r) in
-    record { sound = s .sound; ext = omega (arith, s .ext, r .ext); total = omega (arith, s .total, r .total) }
-
--- the same for a cut and for raw bits by themselves
-pub ready-after-cut : (k fl fh ft : ℕ) (w : Wr) → CutOk fl fh ft → Ready (suc k) w → Ready k (cutW fl fh ft w)
-ready-after-cut k fl fh ft w c r =
-    let s = cut-stepped fl fh ft w c (ready-less 1 (suc k) w (omega arith) r) in
-    record { sound = s .sound; ext = omega (arith, s .ext, r .ext); total = omega (arith, s .total, r .total) }
-
-pub ready-after-bits : (k b v : ℕ) (w : Wr) → BitsOk b v → Ready (suc k) w → Ready k (bitsW b v w)
-ready-after-bits k b v w o r =
-    let s = bits-stepped b v w o (r .sound) in
-    record { sound = s .sound; ext = omega (arith, s .ext, r .ext); total = omega (arith, s .total, r .total) }
+    record { sound = s .sound; ext-le = omega (arith, s .ext-le, r .ext-le); total-le = omega (arith, s .total-le, r .total-le) }

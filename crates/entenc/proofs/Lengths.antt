@@ -7,7 +7,8 @@ use Rattle.entcode.specs.Refusal.{refusal}
 use Rattle.entenc.specs.declared.Writer.{Writer}
 use Rattle.entenc.specs.Rule.{writeRefusal}
 
-pub wrong-lengths : (n : ℕ) (w : Writer) (lengths numbers lists : Bool) (own : ℕ) → (eqb (w .sink .storage) n && lengths) ≡ false
-    → writeRefusal n w lengths numbers lists own ≡ 2
+-- the test of the lengths comes first
+pub wrong-lengths : (n : ℕ) (w : Writer) (lengths numbers lists : Bool) (special : ℕ) → (eqb (w .sink .storage) n && lengths) ≡ false
+    → writeRefusal n w lengths numbers lists special ≡ 2
 unfolding writeRefusal refusal
-wrong-lengths n w lengths numbers lists own e = rw e
+wrong-lengths n w lengths numbers lists special e = rw e

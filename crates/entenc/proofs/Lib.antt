@@ -9,3 +9,4 @@ pub mod Stays
 pub mod Sticky
 pub mod Alike
 pub mod Said
+pub mod Promises

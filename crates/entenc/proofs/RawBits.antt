@@ -3,7 +3,7 @@ use Prim.Native.Nat.{ℕ, _+_, _-_, _*_, _/_, _%_, _<_, _≤_}
 use mathlib.Core.Path.{_≡_}
 use native.Mathlib.Omega.{arith}
 use borrow.Author.Tests.{le-leb, lt-leb}
-use Rattle.entout.specs.Out.{Out, flushed, leftOf}
+use Rattle.entenc_sink.specs.Out.{Out, flushed, leftOf}
 use Rattle.entenc.specs.Write.{Wr, outOf, withRaw, toppedW, bitsW}
 
 -- bits that fit beside those that wait

@@ -1,13 +1,12 @@
 -- An accepted state stays accepted after an accepted write, but for the held run, and after an accepted close. Assumes nothing.
-use Prim.Native.Nat.{ℕ, _+_, _-_, _*_, _≤_}
-use mathlib.Core.Path.{_≡_, sym, _∙_}
+use Prim.Native.Nat.{ℕ, _+_, _*_, _≤_}
+use mathlib.Core.Path.{_≡_}
 use mathlib.Core.Bool.{true}
 use native.Mathlib.Omega.{arith}
-use lib.ListN.{length}
 use borrow.Author.Tests.{leb-true}
 use Rattle.entcode.specs.Tell.{tellOf}
 use Rattle.entcode.specs.Sym.{Shape}
-use Rattle.entcode.proofs.Parts.{ModelOk, parts-ok}
+use Rattle.entcode.proofs.Pieces.{ModelOk, pieces-ok}
 use Rattle.entenc.specs.declared.Writer.{Writer}
 use Rattle.entenc.specs.Write.{Wr, freshWriter}
 use Rattle.entenc.specs.Symbols.{writeSym}
@@ -18,65 +17,75 @@ use Rattle.entenc.proofs.Chain.{Stepped, sym-stepped}
 use Rattle.entenc.proofs.Tails.{closed-fit, closed-rem}
 use Rattle.entenc.proofs.Sticky.{close-keeps}
 
--- the held bytes are among those that were counted
+-- each byte of the held run has cost eight bits of the bit count, beside the 33 of a new writer
 abbrev pub Paid : Writer → Type 0
 Paid w = 8 * w .ext + 33 ≤ w .total
 
+-- a new writer holds no run
 pub paid-new : (n : ℕ) → Paid (freshWriter n)
 paid-new n = omega arith
+
+-- a new writer is accepted
+pub fresh-ok : (n : ℕ) → n ≤ 1275 → writerOk (freshWriter n) ≡ true
+fresh-ok n h =
+    ruled-ok (freshWriter n)
+    (record {
+      counts =
+          record {
+            storage-le = h;
+            range-gt = omega arith;
+            range-le = omega arith;
+            waiting-le = omega arith;
+            total-ge = omega arith;
+            total-le = omega arith;
+          };
+      places-le = omega arith;
+      end-lt = omega arith;
+      rem-le = omega arith;
+      ext-le = omega arith;
+    })
 
 module _ (h : Shape) (v : ℕ) (w : Wr) (zero : refusalW h v w ≡ 0) (model : ModelOk h v) where
   -- an accepted write, as a step
   pub write-stepped : Stepped 49 3 w (writeSym h v w)
   write-stepped =
       let t = taken h v w zero in
-      sym-stepped h v w (parts-ok h v (t .shape) (t .value) (t .lists) model) (ready-of 1 w (omega arith) (t .rule) (t .len))
+      sym-stepped h v w (pieces-ok h v (t .shape) (t .value) (t .lists) model) (ready-of 1 w (omega arith) (t .rule) (t .len))
 
-  -- The bit count is no obstacle, since tell was at most 10,232. The held run can be: from a state that is handed in with a run of 65,533
-  -- or more, three bytes 255 in a row take it past 65,535.
-  pub stays-accepted : writeSym h v w .st .ext ≤ 65535 → writerOk (writeSym h v w .st) ≡ true
-  stays-accepted e =
+  -- the bit count is no obstacle, since tell was at most 10,232; the held run can be
+  pub accepted-within : writeSym h v w .st .ext ≤ 65535 → writerOk (writeSym h v w .st) ≡ true
+  accepted-within e =
       let t = taken h v w zero in
       let r = ruled (w .st) (t .rule) in
       let p = write-stepped in
       let s = p .sound in
-      let l : tellOf (w .st .total) (w .st .rng) ≤ 8 * w .st .sink .storage + 32 = leb-true _ _ (t .told) in
+      let l : tellOf (w .st .total) (w .st .rng) ≤ 8 * w .st .sink .storage + 32 = leb-true _ _ (t .tell-fits) in
       ruled-ok (writeSym h v w .st)
       (record {
         counts =
             record {
-              room = s .storage;
-              low = s .low;
-              top = s .most;
-              waits = s .waiting;
-              least = omega (arith, p .least, r .counts .least);
-              most = omega (arith, p .total, r .counts .room);
+              storage-le = s .storage-le;
+              range-gt = s .range-gt;
+              range-le = s .range-le;
+              waiting-le = s .waiting-le;
+              total-ge = omega (arith, p .total-ge, r .counts .total-ge);
+              total-le = omega (arith, p .total-le, r .counts .storage-le);
             };
-        room = s .fit .room;
-        top = s .top;
-        rem = s .rem;
-        ext = e;
+        places-le = s .fit .room;
+        end-lt = s .end-lt;
+        rem-le = s .rem-le;
+        ext-le = e;
       })
 
-  -- so a run that has room for three bytes more is enough
-  pub stays-with-room : w .st .ext + 3 ≤ 65535 → writerOk (writeSym h v w .st) ≡ true
-  stays-with-room e = stays-accepted (omega (arith, write-stepped .ext))
-
-  -- No row of accepted writes from a new writer makes such a run, since each of its bytes has cost eight bits: all its states are accepted
-  pub stays-from-new : Paid (w .st) → Paid (writeSym h v w .st) × (writerOk (writeSym h v w .st) ≡ true)
-  stays-from-new f =
+  -- where the run is paid for it is no obstacle either, and it is paid for after the write too
+  pub accepted-paid : Paid (w .st) → Paid (writeSym h v w .st) × (writerOk (writeSym h v w .st) ≡ true)
+  accepted-paid f =
       let t = taken h v w zero in
       let r = ruled (w .st) (t .rule) in
       let p = write-stepped in
-      let l : tellOf (w .st .total) (w .st .rng) ≤ 8 * w .st .sink .storage + 32 = leb-true _ _ (t .told) in
+      let l : tellOf (w .st .total) (w .st .rng) ≤ 8 * w .st .sink .storage + 32 = leb-true _ _ (t .tell-fits) in
       let q : 8 * writeSym h v w .st .ext + 33 ≤ writeSym h v w .st .total = omega (arith, p .paid) in
-      (q, stays-accepted (omega (arith, p .total, r .counts .room)))
-
-  -- the storage and the lent length stay
-  pub stays-long : length (writeSym h v w .bytes) ≡ length (w .bytes)
-  stays-long =
-      let t = taken h v w zero in
-      sym (write-stepped .sound .fit .len) ∙ write-stepped .storage ∙ t .len
+      (q, accepted-within (omega (arith, p .total-le, r .counts .storage-le)))
 
 -- A close asks for nothing more: the range and the counts stay, the places stay within the storage, and no run is held
 pub close-accepted : (w : Wr) → refusalClose w ≡ 0 → writerOk (closeW w .st) ≡ true
@@ -84,12 +93,12 @@ unfolding closeW
 close-accepted w zero =
     let t = close-taken w zero in
     let r = ruled (w .st) (t .0) in
-    let f = closed-fit w (record { len = t .1; room = r .room }) in
+    let f = closed-fit w (record { len = t .1; room = r .places-le }) in
     ruled-ok (closeW w .st)
     (record {
       counts = rw (close-keeps w .storage) (r .counts);
-      room = f .room;
-      top = r .top;
-      rem = closed-rem w (r .rem);
-      ext = omega arith;
+      places-le = f .room;
+      end-lt = r .end-lt;
+      rem-le = closed-rem w (r .rem-le);
+      ext-le = omega arith;
     })

@@ -7,16 +7,16 @@ use Rattle.entcode.specs.Said.{Said, answer, lentAfter}
 use Rattle.entcode.specs.Said.Said.{done, refused}
 use Rattle.entcode.specs.Sym.{Shape}
 use Rattle.entenc.specs.declared.Writer.{Writer}
-use Rattle.entenc.specs.declared.Answer.{Answer}
-use Rattle.entenc.specs.declared.Answer.the-variants.{Next, Refused}
+use Rattle.entenc.specs.declared.WriteAnswer.{WriteAnswer}
+use Rattle.entenc.specs.declared.WriteAnswer.the-variants.{Done, Refused}
 use Rattle.entenc.specs.Write.{Wr, freshWriter}
 use Rattle.entenc.specs.Close.{closeW}
 use Rattle.entenc.specs.Symbols.{writeSym}
 use Rattle.entenc.specs.Rule.{refusalW, refusalClose}
 
 -- what an answer says
-abbrev pub said : Answer → Said Writer
-said (Next w) = done w
+abbrev pub said : WriteAnswer → Said Writer
+said (Done w) = done w
 said (Refused n) = refused n
 
 -- what is said, and the lent bytes after the call
@@ -24,7 +24,8 @@ pub record After : Type 0 where
   pub said : Said Writer
   pub bytes : List ℕ
 
-abbrev pub after : Answer → List ℕ → After
+-- the same of an answer and the bytes then lent
+abbrev pub after : WriteAnswer → List ℕ → After
 after r l = record { said = said r; bytes = l }
 
 -- number 0: the writer after the call, with its bytes; any other: that refusal, and the bytes as they were

@@ -3,41 +3,41 @@ use Prim.Native.Nat.{ℕ, _+_, _-_, _*_, _/_, _%_, _^_}
 use mathlib.Core.Bool.{true, cond, _&&_}
 use lib.Dec.{ltb, leb}
 use lib.Count.{leadingZeros}
-use Rattle.entout.specs.Out.{Out, emit, flushed, leftOf}
-use Rattle.entout.specs.Carry.{settled}
-use Rattle.entout.specs.Gap.{finished}
+use Rattle.entenc_sink.specs.Out.{Out, emit, flushed, leftOf}
+use Rattle.entenc_sink.specs.Carry.{settled}
+use Rattle.entenc_sink.specs.Gap.{finished}
 use Rattle.entenc.specs.Write.{Wr, wr, outOf, withRange, shiftsW}
 
--- ---- the shortest number of the range that all that may follow leaves in the range
+-- ---- ec_enc_done: the shortest number such that whatever bits may follow it stay in the range
 
 -- val rounded up to a multiple of 2^m
 unfoldable pub rounded : ℕ → ℕ → ℕ
 rounded m val = (val + (2 ^ m - 1)) / 2 ^ m * 2 ^ m
 
--- how many bits settle it: as many as the range has leading zeros, or one more
+-- how many bits it has (l): as many as the range has leading zeros, or one more
 unfoldable pub tailBits : ℕ → ℕ → ℕ
 tailBits val rng =
     cond (ltb (val + rng - rounded (31 - leadingZeros 32 rng) val) (2 ^ (31 - leadingZeros 32 rng)))
     (leadingZeros 32 rng + 1)
     (leadingZeros 32 rng)
 
--- the number itself
+-- the number itself (end)
 unfoldable pub tailEnd : ℕ → ℕ → ℕ
 tailEnd val rng = rounded (31 - tailBits val rng) val
 
 -- how many bytes its bits take
-abbrev pub turnsOf : ℕ → ℕ
-turnsOf bits = (bits + 7) / 8
+abbrev pub byteCount : ℕ → ℕ
+byteCount bits = (bits + 7) / 8
 
--- end in the place of val, the range so small as what may follow
-abbrev pub ending : ℕ → ℕ → Wr → Wr
-ending end size w = withRange w (outOf w) (w .st .rem) (w .st .ext) end size (w .st .total)
+-- the writer with end as its low end, and a range of the given size
+abbrev pub endingAt : ℕ → ℕ → Wr → Wr
+endingAt end size w = withRange w (outOf w) (w .st .rem) (w .st .ext) end size (w .st .total)
 
 -- the bytes of that number
 unfoldable pub endW : Wr → Wr
 endW w =
-    shiftsW (turnsOf (tailBits (w .st .val) (w .st .rng)))
-    (ending (tailEnd (w .st .val) (w .st .rng)) (2 ^ (31 - tailBits (w .st .val) (w .st .rng))) w)
+    shiftsW (byteCount (tailBits (w .st .val) (w .st .rng)))
+    (endingAt (tailEnd (w .st .val) (w .st .rng)) (2 ^ (31 - tailBits (w .st .val) (w .st .rng))) w)
 
 -- the held byte and its run go out
 abbrev pub restOut : Wr → Out
@@ -49,14 +49,14 @@ restRem rem ext = cond (leb 256 rem && leb ext 0) rem 0
 
 -- ---- close, whole
 
--- where the bytes go
+-- where the bytes go: the last number's, then the whole bytes of the raw bits, then the gap and the last raw bits
 unfoldable pub closeOut : Wr → Out
 closeOut w =
     finished (leftOf (w .st .waiting / 8) (w .st .window)) (w .st .waiting % 8)
-    (8 * turnsOf (tailBits (w .st .val) (w .st .rng)) - tailBits (w .st .val) (w .st .rng))
+    (8 * byteCount (tailBits (w .st .val) (w .st .rng)) - tailBits (w .st .val) (w .st .rng))
     (flushed (w .st .waiting / 8) (w .st .window) (restOut (endW w)))
 
--- val, rng, total and the raw bits' window stay as the crate leaves them
+-- ec_enc_done: val, rng, total and the raw bits' window stay as the crate leaves them
 unfoldable pub closeW : Wr → Wr
 closeW w =
     wr

@@ -4,3 +4,4 @@ pub mod Symbols
 pub mod Rule
 pub mod Answer
 pub mod Ready
+pub mod Promises

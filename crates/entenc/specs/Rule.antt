@@ -9,22 +9,22 @@ use Rattle.entcode.specs.Sym.{Shape, lengthOk, shapeOk, listOk, valueOk}
 use Rattle.entenc.specs.declared.Writer.{Writer}
 use Rattle.entenc.specs.Write.{Wr}
 
--- the rule of a writer: the counts, its two places together at most the storage, its value plus its range below 2^32, the held byte
--- 0..255 or none, the held run 0..65,535
+-- the rule of a writer: what a reader's counts must meet too; the places at the front and at the end have not passed each other; the upper end of
+-- the range fits 32 bits; rem is a byte, or 256 for none; the run ext is at most 65,535
 unfoldable pub writerOk : Writer → Bool
 writerOk w =
     countsOk (w .sink .storage) (w .rng) (w .waiting) (w .total) && leb (w .sink .offs + w .sink .ends) (w .sink .storage)
     && ltb (w .val + w .rng) 4294967296 && leb (w .rem) 256 && leb (w .ext) 65535
 
--- nothing may be written after close
-abbrev pub isLive : Writer → Bool
-isLive w = not (w .closed)
+-- a writer that is not closed: nothing may be written after close
+abbrev pub isOpen : Writer → Bool
+isOpen w = not (w .closed)
 
--- The refusal of a call that can write symbols, 0 for none. n bytes are lent. lengths, numbers, lists and own are the call's own: its
--- other lengths, its numbers, its lists, its number from 5 to 11
+-- The refusal of a call that can write symbols, 0 for none. n bytes are lent. The call says whether its other lengths, its numbers and its
+-- lists are right, and its special refusal from 5 to 11, 0 for none
 unfoldable pub writeRefusal : ℕ → Writer → Bool → Bool → Bool → ℕ → ℕ
-writeRefusal n w lengths numbers lists own =
-    refusal (eqb (w .sink .storage) n && lengths) (writerOk w && numbers) lists own (isLive w)
+writeRefusal n w lengths numbers lists special =
+    refusal (eqb (w .sink .storage) n && lengths) (writerOk w && numbers) lists special (isOpen w)
     (tellOk (w .sink .storage) (w .total) (w .rng))
 
 -- the refusal of writing one symbol of a kind
@@ -33,4 +33,4 @@ refusalW h v w = writeRefusal (length (w .bytes)) (w .st) (lengthOk h) (shapeOk 
 
 -- the refusal of a close, which is never 4
 unfoldable pub refusalClose : Wr → ℕ
-refusalClose w = refusal (eqb (w .st .sink .storage) (length (w .bytes))) (writerOk (w .st)) true 0 (isLive (w .st)) true
+refusalClose w = refusal (eqb (w .st .sink .storage) (length (w .bytes))) (writerOk (w .st)) true 0 (isOpen (w .st)) true

@@ -4,16 +4,17 @@ use mathlib.Core.Bool.{false, cond}
 use mathlib.Core.List.{List}
 use lib.Dec.{leb}
 use lib.Bits.{bitOr}
-use Rattle.entcode.specs.Range.{turns, off, wid}
-use Rattle.entout.specs.Out.{Out, out, sinkOf, emit, flushed, leftOf}
-use Rattle.entout.specs.Carry.{settled, heldBy, runBy}
+use Rattle.entcode.specs.Range.{renormSteps, cutStart, cutWidth}
+use Rattle.entenc_sink.specs.Out.{Out, out, sinkOf, emit, flushed, leftOf}
+use Rattle.entenc_sink.specs.Carry.{settled, heldBy, runBy}
 use Rattle.entenc.specs.declared.Writer.{Writer}
 
--- a writer and its bytes
+-- a writer and its bytes, which change together
 pub record Wr : Type 0 where
   pub st : Writer
   pub bytes : List ℕ
 
+-- the writer s over the bytes l
 abbrev pub wr : Writer → List ℕ → Wr
 wr s l = record { st = s; bytes = l }
 
@@ -57,7 +58,7 @@ withRaw w o window waiting total =
 
 -- ---- section 5.1.1.1: renormalization
 
--- one turn: the top nine bits of the low end come next, and the range is 256 times as large
+-- one step of ec_enc_normalize: the top nine bits of the low end go to ec_enc_carry_out, and the range is 256 times as large
 unfoldable pub shiftW : Wr → Wr
 shiftW w =
     withRange w
@@ -68,6 +69,7 @@ shiftW w =
     (w .st .rng * 256)
     (w .st .total + 8)
 
+-- k steps
 unfoldable pub shiftsW : ℕ → Wr → Wr
 shiftsW zero w = w
 shiftsW (suc k) w = shiftsW k (shiftW w)
@@ -78,9 +80,9 @@ shiftsW (suc k) w = shiftsW k (shiftW w)
 abbrev pub narrowed : ℕ → ℕ → Wr → Wr
 narrowed add rng w = withRange w (outOf w) (w .st .rem) (w .st .ext) (w .st .val + add) rng (w .st .total)
 
--- the places fl up to fh of ft
+-- ec_encode, and ec_encode_bin where ft is a power of 2: the places fl up to fh of ft
 unfoldable pub cutW : ℕ → ℕ → ℕ → Wr → Wr
-cutW fl fh ft w = shiftsW (turns (wid (w .st .rng) fl fh ft)) (narrowed (off (w .st .rng) fl ft) (wid (w .st .rng) fl fh ft) w)
+cutW fl fh ft w = shiftsW (renormSteps (cutWidth (w .st .rng) fl fh ft)) (narrowed (cutStart (w .st .rng) fl ft) (cutWidth (w .st .rng) fl fh ft) w)
 
 -- ---- section 5.1.3: raw bits
 
@@ -94,12 +96,13 @@ abbrev pub toppedW : ℕ → ℕ → Wr → Wr
 toppedW b v w =
     withRaw w (outOf w) (bitOr (w .st .window) (v * 2 ^ w .st .waiting)) (w .st .waiting + b) (w .st .total + b)
 
--- b raw bits: where they do not fit beside those that wait, whole bytes go out first
+-- ec_enc_bits, b raw bits: where they do not fit beside those that wait, whole bytes go out first
 unfoldable pub bitsW : ℕ → ℕ → Wr → Wr
 bitsW b v w = toppedW b v (flushW (cond (leb (w .st .waiting + b) 32) 0 (w .st .waiting / 8)) w)
 
--- ---- a new writer over n bytes
+-- ---- a new writer
 
+-- ec_enc_init, over n bytes
 abbrev pub freshWriter : ℕ → Writer
 freshWriter n =
     record {

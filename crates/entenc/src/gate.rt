@@ -6,7 +6,7 @@ ghost use lib.Dec.{ltb, leb, eqb};
 ghost use lib.ListN.{length};
 ghost use Rattle.entcode.specs.Refusal.{refusal};
 ghost use Rattle.entcode.specs.Sym.{falls};
-ghost use Rattle.entenc.specs.Rule.{writerOk, isLive, writeRefusal};
+ghost use Rattle.entenc.specs.Rule.{writerOk, isOpen, writeRefusal};
 use super::Writer;
 
 impl Writer {
@@ -32,22 +32,23 @@ impl Writer {
         (s.storage as usize == n) & lengths
     }
 
-    // The number of the refusal of a call that can write symbols, 0 for none. n bytes are lent; lengths, numbers, lists and own are what
-    // the call found of its own.
-    pub fn refusal(self, n: usize, lengths: bool, numbers: bool, lists: bool, own: u32) -> u32
-        ensures { λ r. ⌜ r ≡ writeRefusal n self lengths numbers lists own ⌝ }
+    // The number of the refusal of a call that can write symbols, 0 for none. n bytes are lent; lengths, numbers, lists and special are what
+    // the call found.
+    pub fn refusal(self, n: usize, lengths: bool, numbers: bool, lists: bool, special: u32) -> u32
+        ensures { λ r. ⌜ r ≡ writeRefusal n self lengths numbers lists special ⌝ }
     {
         let s = self.sink;
-        let live = !self.closed;
-        let told = entcode::tell_ok(s.storage, self.total, self.rng);
+        let unclosed = !self.closed;
+        let fits = entcode::tell_ok(s.storage, self.total, self.rng);
         let sound = self.sound();
         let sized = self.sized(n, lengths);
-        entcode::refusal_of(sized, sound & numbers, lists, own, live, told)
+        entcode::refusal_of(sized, sound & numbers, lists, special, unclosed, fits)
     }
 
     // The number of the refusal of writing the symbol s of a table, 0 for none. The table is read once every length is right.
     pub fn refusal_table(self, n: usize, s: u32, t: &[u8], ftb: u32) -> u32
-        ensures { λ r. ⌜ r ≡ writeRefusal n self (ltb 0 (length (now (t .entry)))) (leb 1 ftb && leb ftb 8 && ltb s (length (now (t .entry)))) (falls (2 ^ ftb) (now (t .entry))) 0 ⌝ }
+        ensures { λ r. ⌜ r ≡ writeRefusal n self (ltb 0 (length (now (t .entry)))) (leb 1 ftb && leb ftb 8 && ltb s (length (now (t .entry))))
+            (falls (2 ^ ftb) (now (t .entry))) 0 ⌝ }
     {
         let some = 0 < t.len();
         if self.sized(n, some) {
@@ -60,13 +61,13 @@ impl Writer {
 
     // The number of the refusal of a close, 0 for none.
     pub fn refusal_close(self, n: usize) -> u32
-        ensures { λ r. ⌜ r ≡ refusal (eqb (self .sink .storage) n) (writerOk self) true 0 (isLive self) true ⌝ }
+        ensures { λ r. ⌜ r ≡ refusal (eqb (self .sink .storage) n) (writerOk self) true 0 (isOpen self) true ⌝ }
     {
         let s = self.sink;
         let storage = s.storage as usize;
-        let live = !self.closed;
+        let unclosed = !self.closed;
         let sound = self.sound();
-        entcode::refusal_of(storage == n, sound, true, 0, live, true)
+        entcode::refusal_of(storage == n, sound, true, 0, unclosed, true)
     }
 }
 

@@ -5,7 +5,7 @@ ghost use Prim.Native.Nat.{_+_, _^_, _<_, _≤_};
 ghost use Rattle.entenc.specs.Write.{wr, toppedW, bitsW};
 ghost use Rattle.entenc.specs.Ready.{Ready};
 use super::Writer;
-use entout::raw::flush;
+use entenc_sink::raw::flush;
 
 impl Writer {
     // n bits of v on top of those that wait. No byte changes, so that any bytes do.

@@ -2,12 +2,12 @@
 ghost use mathlib.Core.Path.{_≡_};
 ghost use Prim.Native.Nat.{_+_, _^_, _<_, _≤_};
 ghost use Rattle.entenc.specs.Write.{wr, shiftsW};
-ghost use Rattle.entenc.specs.Close.{rounded, tailBits, tailEnd, ending, restRem, closeW};
+ghost use Rattle.entenc.specs.Close.{rounded, tailBits, tailEnd, endingAt, restRem, closeW};
 ghost use Rattle.entenc.specs.Ready.{Ready};
 use super::Writer;
-use entout::front::carry;
-use entout::gap::finish;
-use entout::raw::flush;
+use entenc_sink::front::carry;
+use entenc_sink::gap::finish;
+use entenc_sink::raw::flush;
 use laws::pow2;
 
 // val rounded up to a multiple of 2^m.
@@ -54,9 +54,9 @@ fn rest_rem(rem: u32, ext: u32) -> u32
 
 impl Writer {
     // The bytes of the number end, k of them. The range plays no part.
-    fn settle(mut self, buf: &mut [u8], end: u32, k: u32) -> Writer
+    fn last_bytes(mut self, buf: &mut [u8], end: u32, k: u32) -> Writer
         requires { ⌜ Ready 1 (wr self (now buf)) × (end + 1 < 4294967296) × (k ≤ 2) ⌝ }
-        ensures { λ r. ⌜ wr r (now (buf .exit)) ≡ shiftsW k (ending end 1 (wr self (now (buf .entry)))) ⌝ }
+        ensures { λ r. ⌜ wr r (now (buf .exit)) ≡ shiftsW k (endingAt end 1 (wr self (now (buf .entry)))) ⌝ }
     {
         self.val = end;
         self.rng = 1;
@@ -78,7 +78,7 @@ impl Writer {
         let t = last_of(self.val, self.rng);
         let bits = t.bits;
         let k = (bits + 7) / 8;
-        let w = self.settle(buf, t.end, k);
+        let w = self.last_bytes(buf, t.end, k);
         let s = w.sink;
         let s2 = carry(s, buf, w.rem, w.ext, 0);
         let f = flush(s2, buf, self.window, self.waiting);

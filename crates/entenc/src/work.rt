@@ -3,24 +3,24 @@ ghost use mathlib.Core.Path.{_≡_};
 ghost use mathlib.Core.Bool.{true};
 ghost use Prim.Native.Nat.{_+_, _^_, _<_, _≤_};
 ghost use lib.ListN.{length};
-ghost use Rattle.entcode.specs.Range.{turns, off, wid};
+ghost use Rattle.entcode.specs.Range.{renormSteps, cutStart, cutWidth};
 ghost use Rattle.entcode.specs.Sym.{falls};
 ghost use Rattle.entcode.specs.Sym.Shape.{bit, table, uint};
 ghost use Rattle.entenc.specs.Write.{wr, shiftW, shiftsW, narrowed, cutW};
 ghost use Rattle.entenc.specs.Symbols.{writeSym};
-ghost use Rattle.entenc.specs.Ready.{Turning, Ready};
+ghost use Rattle.entenc.specs.Ready.{Renormalizing, Ready};
 use super::Writer;
-use entout::Sink;
-use entout::front::carry;
-use entout::front::held_by;
-use entout::front::run_by;
+use entenc_sink::Sink;
+use entenc_sink::front::carry;
+use entenc_sink::front::held_by;
+use entenc_sink::front::run_by;
 use laws::pow2;
 use laws::wide;
 
 // Where the places from fl of ft begin in a range.
-fn off_of(rng: u32, fl: u32, ft: u32) -> u32
+fn cut_start(rng: u32, fl: u32, ft: u32) -> u32
     requires { ⌜ (fl < ft) × (ft ≤ rng) ⌝ }
-    ensures { λ r. ⌜ r ≡ off rng fl ft ⌝ }
+    ensures { λ r. ⌜ r ≡ cutStart rng fl ft ⌝ }
 {
     if fl == 0 {
         0
@@ -30,9 +30,9 @@ fn off_of(rng: u32, fl: u32, ft: u32) -> u32
 }
 
 // How much of a range the places fl up to fh of ft have.
-fn wid_of(rng: u32, fl: u32, fh: u32, ft: u32) -> u32
+fn cut_width(rng: u32, fl: u32, fh: u32, ft: u32) -> u32
     requires { ⌜ (fl < fh) × (fh ≤ ft) × (ft ≤ rng) ⌝ }
-    ensures { λ r. ⌜ r ≡ wid rng fl fh ft ⌝ }
+    ensures { λ r. ⌜ r ≡ cutWidth rng fl fh ft ⌝ }
 {
     if fl == 0 {
         rng - rng / ft * (ft - fh)
@@ -42,9 +42,9 @@ fn wid_of(rng: u32, fl: u32, fh: u32, ft: u32) -> u32
 }
 
 impl Writer {
-    // One turn of renormalization.
+    // One step of ec_enc_normalize.
     pub fn shift(mut self, buf: &mut [u8]) -> Writer
-        requires { ⌜ Turning 1 (wr self (now buf)) × (self .rng ≤ 8388608) ⌝ }
+        requires { ⌜ Renormalizing 1 (wr self (now buf)) × (self .rng ≤ 8388608) ⌝ }
         ensures { λ r. ⌜ wr r (now (buf .exit)) ≡ shiftW (wr self (now (buf .entry))) ⌝ }
     {
         let c = self.val / 8388608;
@@ -67,8 +67,8 @@ impl Writer {
 
     // Turns until the range is above 2^23.
     fn normalize(self, buf: &mut [u8]) -> Writer
-        requires { ⌜ Turning 3 (wr self (now buf)) ⌝ }
-        ensures { λ r. ⌜ wr r (now (buf .exit)) ≡ shiftsW (turns (self .rng)) (wr self (now (buf .entry))) ⌝ }
+        requires { ⌜ Renormalizing 3 (wr self (now buf)) ⌝ }
+        ensures { λ r. ⌜ wr r (now (buf .exit)) ≡ shiftsW (renormSteps (self .rng)) (wr self (now (buf .entry))) ⌝ }
     {
         let mut w = self;
         while w.rng <= 8388608 {
@@ -80,7 +80,7 @@ impl Writer {
     // The range narrowed to rng, its low end raised by add.
     fn narrow(mut self, buf: &mut [u8], add: u32, rng: u32) -> Writer
         requires { ⌜ Ready 1 (wr self (now buf)) × (0 < rng) × (add + rng ≤ self .rng) ⌝ }
-        ensures { λ r. ⌜ wr r (now (buf .exit)) ≡ shiftsW (turns rng) (narrowed add rng (wr self (now (buf .entry)))) ⌝ }
+        ensures { λ r. ⌜ wr r (now (buf .exit)) ≡ shiftsW (renormSteps rng) (narrowed add rng (wr self (now (buf .entry)))) ⌝ }
     {
         self.val = self.val + add;
         self.rng = rng;
@@ -92,8 +92,8 @@ impl Writer {
         requires { ⌜ Ready 1 (wr self (now buf)) × (fl < fh) × (fh ≤ ft) × (ft ≤ 32768) ⌝ }
         ensures { λ r. ⌜ wr r (now (buf .exit)) ≡ cutW fl fh ft (wr self (now (buf .entry))) ⌝ }
     {
-        let add = off_of(self.rng, fl, ft);
-        let rng = wid_of(self.rng, fl, fh, ft);
+        let add = cut_start(self.rng, fl, ft);
+        let rng = cut_width(self.rng, fl, fh, ft);
         self.narrow(buf, add, rng)
     }
 

@@ -1,6 +1,6 @@
 -- The pairs of the coarse-energy model: a known pair is the model's pair k for some k, and makes a Laplace model. Assumes nothing.
 use Prim.Native.Nat.{ℕ, zero, suc, _≤_, _<_}
-use mathlib.Core.Path.{_≡_, refl}
+use mathlib.Core.Path.{_≡_}
 use mathlib.Core.Bool.{true, and-eq-true-iff, or-true}
 use native.Mathlib.Omega.{arith}
 use lib.Dec.{eqb}
@@ -19,6 +19,7 @@ pub record PairAt (fs dec : ℕ) : Type 0 where
   pub zero : zeroAt k ≡ fs
   pub decay : decayAt k ≡ dec
 
+-- a search that finds a pair gives its index
 among-at : (n fs dec : ℕ) → n ≤ 168 → among n fs dec ≡ true → PairAt fs dec
 unfolding among
 among-at zero fs dec h e = let z : _≡_ {A = ℕ} 0 1 = cc in absurd (omega arith)
@@ -29,6 +30,7 @@ among-at (suc n) fs dec h e =
     record { k = n; below = omega arith; zero = eqb-true (zeroAt n) fs (b .0); decay = eqb-true (decayAt n) dec (b .1) })
     (λ p. among-at n fs dec (omega arith) (rw p at e))
 
+-- and a pair that is there is found
 among-of : (n fs dec k : ℕ) → k < n → zeroAt k ≡ fs → decayAt k ≡ dec → among n fs dec ≡ true
 unfolding among
 among-of zero fs dec k h a b = absurd (omega arith)
@@ -41,6 +43,7 @@ among-of (suc n) fs dec k h a b =
     rw (eq-eqb (zeroAt n) fs x, eq-eqb (decayAt n) dec y))
     (λ l. rw (among-of n fs dec k l a b, or-true))
 
+-- a known pair has an index
 pub known-at : (fs dec : ℕ) → pairKnown fs dec ≡ true → PairAt fs dec
 unfolding pairKnown
 known-at fs dec e = among-at 168 fs dec (omega arith) e
@@ -52,13 +55,11 @@ known-legal fs dec e =
     let l = pair-legal (p .k) (p .below) in
     rw (p .zero, p .decay) at l
 
+-- and what has one is known
 pub at-known : (fs dec : ℕ) → PairAt fs dec → pairKnown fs dec ≡ true
 unfolding pairKnown
 at-known fs dec p = among-of 168 fs dec (p .k) (p .below) (p .zero) (p .decay)
 
--- the model's own pairs are known
-pub model-known : (k : ℕ) → k < 168 → pairKnown (zeroAt k) (decayAt k) ≡ true
-model-known k h = at-known (zeroAt k) (decayAt k) (record { k = k; below = h; zero = refl; decay = refl })
-
+-- as facts
 pub known-parts : (fs dec : ℕ) → pairKnown fs dec ≡ true → Legal fs dec
 known-parts fs dec e = legal-parts fs dec (known-legal fs dec e)

@@ -1,3 +1,4 @@
+-- The laws of places, from a walk along the chain to what is promised, and the way a pair is found.
 pub mod Walks
 pub mod Spans
 pub mod Values
@@ -6,4 +7,4 @@ pub mod Looked
 pub mod Lawful
 pub mod Answers
 pub mod Said
-pub mod Follow
+pub mod Promises

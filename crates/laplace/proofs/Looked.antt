@@ -1,6 +1,6 @@
 -- The code's way to find a pair of the coarse-energy model, by the share of zero, finds the model's pairs and no others: two computed tests,
 -- of each pair and of each row. Assumes nothing.
-use Prim.Native.Nat.{ℕ, zero, suc, _+_, _*_, _/_, _%_, _<_}
+use Prim.Native.Nat.{ℕ, suc, _+_, _*_, _/_, _%_, _<_}
 use mathlib.Core.Path.{_≡_, refl, sym}
 use mathlib.Core.Bool.{Bool, true, false, _&&_, _||_, and-eq-true-iff}
 use mathlib.Core.List.{List, [], _∷_}
@@ -14,7 +14,7 @@ use Rattle.laws.proofs.Tables.{below-at}
 use Rattle.modes.specs.EnergyModel.{energyModel, zeroAt, decayAt}
 use Rattle.modes.proofs.EnergyModelRule.{energy-model-length}
 use Rattle.laplace.specs.Pairs.{pairKnown}
-use Rattle.laplace.specs.Rows.{Row, rows, decaysIn, decaysFor, holds}
+use Rattle.laplace.specs.Rows.{DecayRow, decayRows, decaysIn, decaysFor, holds}
 use Rattle.laplace.proofs.Known.{PairAt, known-at, at-known}
 
 -- ---- the rows as the arms of a match
@@ -24,20 +24,22 @@ pub hit : (z : ℕ) {k w : ℕ} → z ≡ k → w ≡ decaysFor k → w ≡ deca
 hit z e h = rw e h
 
 -- what is left of a match: z is the share of none of the rows, beside what N says
-abbrev pub Besides : Type 0 → List Row → ℕ → Type 0
+abbrev pub Besides : Type 0 → List DecayRow → ℕ → Type 0
 Besides N [] z = N
 Besides N (r ∷ rs) z = Besides (N × (z ≡ r .share → ⊥)) rs z
 
-besides : (rs : List Row) (N : Type 0) (z : ℕ) → Besides N rs z → N × (decaysIn rs z ≡ 0)
+-- where no share is z, there are no decays
+besides : (rs : List DecayRow) (N : Type 0) (z : ℕ) → Besides N rs z → N × (decaysIn rs z ≡ 0)
 unfolding decaysIn
 besides [] N z b = (b, refl)
 besides (r ∷ rs) N z b =
     let p = besides rs (N × (z ≡ r .share → ⊥)) z b in
     (p .0 .0, rw (ne-eqb z (r .share) (p .0 .1)) (p .1))
 
-pub missed : (z : ℕ) → Besides (Unit {0}) rows z → 0 ≡ decaysFor z
+-- the last arm: z is the share of no row
+pub missed : (z : ℕ) → Besides (Unit {0}) decayRows z → 0 ≡ decaysFor z
 unfolding decaysFor
-missed z b = sym (besides rows (Unit {0}) z b .1)
+missed z b = sym (besides decayRows (Unit {0}) z b .1)
 
 -- ---- every byte of a row is 0 or the decay of a pair of the model
 
@@ -47,18 +49,21 @@ pairIn [] z d = false
 pairIn (a ∷ []) z d = false
 pairIn (a ∷ (b ∷ l)) z d = eqb a z && eqb b d || pairIn l z d
 
+-- two entries of the list, one after the other from an even place on
 record Entry (l : List ℕ) (z d : ℕ) : Type 0 where
   k : ℕ
   below : 2 * k + 1 < length l
   share : getD l (2 * k) 0 ≡ z
   decay : getD l (2 * k + 1) 0 ≡ d
 
+-- further on in a longer list
 later : (a b : ℕ) (l : List ℕ) (z d : ℕ) → Entry l z d → Entry (a ∷ (b ∷ l)) z d
 later a b l z d e =
     let p : 2 * suc (e .k) ≡ suc (suc (2 * e .k)) = omega arith in
     let q : 2 * suc (e .k) + 1 ≡ suc (suc (2 * e .k + 1)) = omega arith in
     record { k = suc (e .k); below = omega (arith, e .below); share = rw p (e .share); decay = rw q (e .decay) }
 
+-- what the test finds is there
 entry-in : (l : List ℕ) (z d : ℕ) → pairIn l z d ≡ true → Entry l z d
 unfolding pairIn
 entry-in [] z d t = let y : _≡_ {A = ℕ} 0 1 = cc in absurd (omega arith)
@@ -75,6 +80,7 @@ entry-in (a ∷ (b ∷ l)) z d t =
 fiveAll : (ℕ → Bool) → ℕ → Bool
 fiveAll f w = f (w % 256) && f (w / 256 % 256) && f (w / 65536 % 256) && f (w / 16777216 % 256) && f (w / 4294967296)
 
+-- what holds of all five bytes holds of one of them
 five-at : (f : ℕ → Bool) (w d : ℕ) → fiveAll f w ≡ true → holds w d ≡ true → f d ≡ true
 unfolding fiveAll
 five-at f w d t h =
@@ -97,15 +103,18 @@ five-at f w d t h =
 fair : ℕ → ℕ → Bool
 fair z d = eqb d 0 || pairIn energyModel z d
 
-fairRows : List Row → Bool
+-- every byte of every row is fair
+fairRows : List DecayRow → Bool
 fairRows [] = true
 fairRows (r ∷ rs) = fiveAll (fair (r .share)) (r .decays) && fairRows rs
 
-rows-fair : fairRows rows ≡ true
-unfolding rows energyModel fairRows fiveAll fair pairIn
+-- the computed test of the rows
+rows-fair : fairRows decayRows ≡ true
+unfolding decayRows energyModel fairRows fiveAll fair pairIn
 rows-fair = refl
 
-fair-in : (rs : List Row) (z : ℕ) → fairRows rs ≡ true → fiveAll (fair z) (decaysIn rs z) ≡ true
+-- so are the decays of any share
+fair-in : (rs : List DecayRow) (z : ℕ) → fairRows rs ≡ true → fiveAll (fair z) (decaysIn rs z) ≡ true
 unfolding decaysIn fairRows fiveAll fair
 fair-in [] z t = refl
 fair-in (r ∷ rs) z t =
@@ -116,12 +125,15 @@ fair-in (r ∷ rs) z t =
 
 -- ---- the code's test
 
+-- what the code tests first: the share and the decay are whole 256ths, and the decay is not 0
 abbrev pub even : ℕ → ℕ → Bool
 even fs dec = eqb (fs % 128) 0 && eqb (dec % 64) 0 && ltb 0 dec
 
+-- the code's whole test
 abbrev pub looked : ℕ → ℕ → Bool
 looked fs dec = even fs dec && holds (decaysFor (fs / 128)) (dec / 64)
 
+-- what it finds is a pair of the model
 looked-at : (fs dec : ℕ) → looked fs dec ≡ true → PairAt fs dec
 unfolding decaysFor zeroAt decayAt fair
 looked-at fs dec t =
@@ -131,7 +143,7 @@ looked-at fs dec t =
     let x : fs % 128 ≡ 0 = eqb-true (fs % 128) 0 (c .0) in
     let y : dec % 64 ≡ 0 = eqb-true (dec % 64) 0 (c .1) in
     let s : 0 < dec = ltb-true 0 dec (b .1) in
-    let f = five-at (fair (fs / 128)) (decaysFor (fs / 128)) (dec / 64) (fair-in rows (fs / 128) rows-fair) (a .1) in
+    let f = five-at (fair (fs / 128)) (decaysFor (fs / 128)) (dec / 64) (fair-in decayRows (fs / 128) rows-fair) (a .1) in
     ⊎-elim
     (λ e. let z = eqb-true (dec / 64) 0 e in absurd (omega arith))
     (λ e.
@@ -144,15 +156,18 @@ looked-at fs dec t =
     })
     (or-parts (eqb (dec / 64) 0) (pairIn energyModel (fs / 128) (dec / 64)) f)
 
+-- the computed test of the pairs: each is found
 pair-looked : (k : ℕ) → k < 168 → looked (zeroAt k) (decayAt k) ≡ true
-unfolding zeroAt decayAt energyModel decaysFor decaysIn rows
+unfolding zeroAt decayAt energyModel decaysFor decaysIn decayRows
 pair-looked = below-at (λ k. looked (zeroAt k) (decayAt k)) 168 refl
 
+-- two tests that follow from each other are one
 same : (a b : Bool) → (a ≡ true → b ≡ true) → (b ≡ true → a ≡ true) → a ≡ b
 same true b f g = sym (f refl)
 same false true f g = g refl
 same false false f g = refl
 
+-- the code's test is the definition's
 pub looked-known : (fs dec : ℕ) → looked fs dec ≡ pairKnown fs dec
 looked-known fs dec =
     same (looked fs dec) (pairKnown fs dec)

@@ -1,4 +1,4 @@
--- The two enums, told back from what they say: two that say the same are one. Assumes nothing.
+-- Each of the two enums is found again from what it says: two that say the same are one. Assumes nothing.
 use mathlib.Core.Path.{_≡_, refl}
 use Rattle.entcode.specs.Said.Said.{done, refused}
 use Rattle.entcode.specs.Said.{Said}
@@ -13,12 +13,12 @@ use Rattle.laplace.specs.Answer.{saidRead, saidWrote}
 
 -- the answer of a read that says this
 abbrev pub backRead : Said LapSym → LapRead
-backRead (done y) = got.Got y
+backRead (done y) = got.Done y
 backRead (refused n) = got.Refused n
 
--- telling it back gives the answer
+-- it is the answer that was said
 pub saidRead-back : (r : LapRead) → backRead (saidRead r) ≡ r
-saidRead-back (got.Got y) = refl
+saidRead-back (got.Done y) = refl
 saidRead-back (got.Refused n) = refl
 
 -- two that say the same are one
@@ -27,12 +27,12 @@ saidRead-same e = alike saidRead backRead saidRead-back e
 
 -- the answer of a write that says this
 abbrev pub backWrote : Said LapDone → LapWrote
-backWrote (done y) = wrote.Next y
+backWrote (done y) = wrote.Done y
 backWrote (refused n) = wrote.Refused n
 
--- telling it back gives the answer
+-- it is the answer that was said
 pub saidWrote-back : (r : LapWrote) → backWrote (saidWrote r) ≡ r
-saidWrote-back (wrote.Next y) = refl
+saidWrote-back (wrote.Done y) = refl
 saidWrote-back (wrote.Refused n) = refl
 
 -- two that say the same are one

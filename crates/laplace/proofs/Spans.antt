@@ -10,21 +10,24 @@ use borrow.Author.Tests.{ltb-true, ltb-false, leb-true, leb-false, lt-ltb, le-lt
 use Rattle.laws.proofs.Tests.{split-on}
 use Rattle.modes.proofs.Laplace.{Legal, runs-out-next, runs-out-zero}
 use Rattle.laplace.specs.declared.chain.Step.{Step}
-use Rattle.laplace.specs.declared.chain.Span.{Span}
-use Rattle.laplace.specs.Chain.{first, next, walk, upTo, past, side, none, room, over, spanAt, spanOf, deep, toldAt, locateAt, locate, Proper}
+use Rattle.laplace.specs.Chain.{firstStep, nextStep, walk, upTo, past, side, zeroSpan, valuesWithPlace, beyond, spanAt, spanOf, deep, sideAt, locateAt}
+use Rattle.laplace.specs.Chain.{locate, Proper}
 use Rattle.laplace.proofs.Walks.{Ends, goesOn, on-some, on-more, walk-step, walk-done, ends-within}
 
 -- ---- where a walk ends
 
+-- e is where a walk of at most k steps from s ends: not before s, and its places lie within the 32,768
 pub record Went (k : ℕ) (s e : Step) : Type 0 where
   pub up : s .fl ≤ e .fl
   pub on : s .i ≤ e .i
   pub most : e .i ≤ s .i + k
-  pub room : e .fl + 2 * e .f + 2 ≤ 32768
+  pub within : e .fl + 2 * e .f + 2 ≤ 32768
 
+-- a walk of no step
 stay : (k dec : ℕ) (s : Step) → Ends k dec s → Went k s s
-stay k dec s h = record { up = le-refl _; on = le-refl _; most = omega arith; room = ends-within k dec s h }
+stay k dec s h = record { up = le-refl _; on = le-refl _; most = omega arith; within = ends-within k dec s h }
 
+-- every walk along a chain that comes to its end
 pub walk-went : (more : Step → Bool) (k dec : ℕ) (s : Step) → Ends k dec s → Went k s (walk more k dec s)
 unfolding walk
 walk-went more zero dec s h = stay zero dec s h
@@ -32,8 +35,8 @@ walk-went more (suc k) dec s h =
     split-on (goesOn more s)
     (λ t.
     let p = on-some more s t in
-    let w = walk-went more k dec (next dec s) (runs-out-next dec k (s .fl) (s .f) p h) in
-    rw (walk-step more k dec s t) (record { up = omega arith; on = omega arith; most = omega arith; room = w .room }))
+    let w = walk-went more k dec (nextStep dec s) (runs-out-next dec k (s .fl) (s .f) p h) in
+    rw (walk-step more k dec s t) (record { up = omega arith; on = omega arith; most = omega arith; within = w .within }))
     (λ t. rw (walk-done more (suc k) dec s t) (stay (suc k) dec s h))
 
 -- it ends because there is no more to do, and not for want of steps
@@ -47,7 +50,7 @@ walk-stops more (suc k) dec s h =
     split-on (goesOn more s)
     (λ t.
     let p = on-some more s t in
-    rw (walk-step more k dec s t) (walk-stops more k dec (next dec s) (runs-out-next dec k (s .fl) (s .f) p h)))
+    rw (walk-step more k dec s t) (walk-stops more k dec (nextStep dec s) (runs-out-next dec k (s .fl) (s .f) p h)))
     (λ t. rw (walk-done more (suc k) dec s t) t)
 
 -- a writer goes no further than its value, a reader not past its place
@@ -58,9 +61,10 @@ upTo-le a (suc k) dec s h =
     split-on (goesOn (upTo a) s)
     (λ t.
     let q = ltb-true (s .i) a (on-more (upTo a) s t) in
-    rw (walk-step (upTo a) k dec s t) (upTo-le a k dec (next dec s) (omega arith)))
+    rw (walk-step (upTo a) k dec s t) (upTo-le a k dec (nextStep dec s) (omega arith)))
     (λ t. rw (walk-done (upTo a) (suc k) dec s t) h)
 
+-- and a reader's walk ends at or before its place
 pub past-le : (fm k dec : ℕ) (s : Step) → s .fl ≤ fm → walk (past fm) k dec s .fl ≤ fm
 unfolding walk
 past-le fm zero dec s h = h
@@ -68,7 +72,7 @@ past-le fm (suc k) dec s h =
     split-on (goesOn (past fm) s)
     (λ t.
     let q = leb-true (s .fl + 2 * s .f + 2) fm (on-more (past fm) s t) in
-    rw (walk-step (past fm) k dec s t) (past-le fm k dec (next dec s) q))
+    rw (walk-step (past fm) k dec s t) (past-le fm k dec (nextStep dec s) q))
     (λ t. rw (walk-done (past fm) (suc k) dec s t) h)
 
 -- the reader of a place of a value ends where the writer of the value does
@@ -86,9 +90,9 @@ agree a fm (suc k) dec s h l u =
     let t : goesOn (upTo a) s ≡ true = rw (p, m) in
     let e = walk-step (upTo a) k dec s t in
     let l′ = rw e at l in
-    let w = walk-went (upTo a) k dec (next dec s) (runs-out-next dec k (s .fl) (s .f) p′ h) in
+    let w = walk-went (upTo a) k dec (nextStep dec s) (runs-out-next dec k (s .fl) (s .f) p′ h) in
     let t′ : goesOn (past fm) s ≡ true = rw (p, le-leb (s .fl + 2 * s .f + 2) fm (omega arith)) in
-    walk-step (past fm) k dec s t′ ∙ agree a fm k dec (next dec s) (runs-out-next dec k (s .fl) (s .f) p′ h) l′ (rw e at u) ∙ sym e)
+    walk-step (past fm) k dec s t′ ∙ agree a fm k dec (nextStep dec s) (runs-out-next dec k (s .fl) (s .f) p′ h) l′ (rw e at u) ∙ sym e)
     (λ m.
     let t : goesOn (upTo a) s ≡ false = rw (p, m) in
     let e = walk-done (upTo a) (suc k) dec s t in
@@ -114,9 +118,14 @@ agree-back fm d (suc k) dec s h z =
     (λ m.
     let t : goesOn (past fm) s ≡ true = rw (p, m) in
     let e = walk-step (past fm) k dec s t in
-    let w = walk-went (past fm) k dec (next dec s) (runs-out-next dec k (s .fl) (s .f) p′ h) in
-    let t′ : goesOn (upTo (walk (past fm) k dec (next dec s) .i + d)) s ≡ true = rw (p, lt-ltb (s .i) (walk (past fm) k dec (next dec s) .i + d) (omega arith)) in
-    rw e (walk-step (upTo (walk (past fm) k dec (next dec s) .i + d)) k dec s t′ ∙ agree-back fm d k dec (next dec s) (runs-out-next dec k (s .fl) (s .f) p′ h) (rw e at z)))
+    let w = walk-went (past fm) k dec (nextStep dec s) (runs-out-next dec k (s .fl) (s .f) p′ h) in
+    let t′ : goesOn (upTo (walk (past fm) k dec (nextStep dec s) .i + d)) s ≡ true = rw (
+      p,
+      lt-ltb (s .i) (walk (past fm) k dec (nextStep dec s) .i + d)
+          (omega arith),
+    ) in
+    rw e (walk-step (upTo (walk (past fm) k dec (nextStep dec s) .i + d)) k dec s t′ ∙ agree-back fm d k dec (nextStep dec s)
+    (runs-out-next dec k (s .fl) (s .f) p′ h) (rw e at z)))
     (λ m.
     let t : goesOn (past fm) s ≡ false = rw (p, m) in
     let e = walk-done (past fm) (suc k) dec s t in
@@ -132,26 +141,31 @@ agree-back fm d (suc k) dec s h z =
 -- ---- the places of one value
 
 -- how far past the chain's end a written value lies: never where f is not 0
-pub over-zero : (neg : Bool) (a : ℕ) (e : Step) → 0 < e .f → over neg a e ≡ 0
-over-zero neg a e p = rw (lt-ltb 0 (e .f) p)
+pub beyond-zero : (neg : Bool) (a : ℕ) (e : Step) → 0 < e .f → beyond neg a e ≡ 0
+beyond-zero neg a e p = rw (lt-ltb 0 (e .f) p)
 
-over-le : (neg : Bool) (a : ℕ) (e : Step) → over neg a e ≤ room neg (e .fl) - 1
-over-le neg a e = split-on (ltb 0 (e .f)) (λ p. rw p (omega arith)) (λ p. rw p (omega arith))
+-- nor further than the last value that has a place
+beyond-le : (neg : Bool) (a : ℕ) (e : Step) → beyond neg a e ≤ valuesWithPlace neg (e .fl) - 1
+beyond-le neg a e = split-on (ltb 0 (e .f)) (λ p. rw p (omega arith)) (λ p. rw p (omega arith))
 
-pub room-le : (neg : Bool) (fl : ℕ) → room neg fl ≤ 16384
-room-le true fl = omega arith
-room-le false fl = omega arith
+-- no more than half of the places
+pub values-le : (neg : Bool) (fl : ℕ) → valuesWithPlace neg fl ≤ 16384
+values-le true fl = omega arith
+values-le false fl = omega arith
 
-pub over-less : (n : ℕ) (neg : Bool) (a : ℕ) (e : Step) → e .f ≤ 0 → n ≡ room neg (e .fl) → a - e .i < n - 1
-    → a - e .i ≡ over neg a e
-over-less n neg a e z q h = rw (le-ltb 0 (e .f) z) (omega (arith, q))
+-- short of the last value that has a place it is the distance to a
+pub beyond-inside : (n : ℕ) (neg : Bool) (a : ℕ) (e : Step) → e .f ≤ 0 → n ≡ valuesWithPlace neg (e .fl) → a - e .i < n - 1
+    → a - e .i ≡ beyond neg a e
+beyond-inside n neg a e z q h = rw (le-ltb 0 (e .f) z) (omega (arith, q))
 
-pub over-most : (n : ℕ) (neg : Bool) (a : ℕ) (e : Step) → e .f ≤ 0 → n ≡ room neg (e .fl) → n - 1 ≤ a - e .i
-    → n - 1 ≡ over neg a e
-over-most n neg a e z q h = rw (le-ltb 0 (e .f) z) (omega (arith, q))
+-- and from there on the last value's
+pub beyond-last : (n : ℕ) (neg : Bool) (a : ℕ) (e : Step) → e .f ≤ 0 → n ≡ valuesWithPlace neg (e .fl) → n - 1 ≤ a - e .i
+    → n - 1 ≡ beyond neg a e
+beyond-last n neg a e z q h = rw (le-ltb 0 (e .f) z) (omega (arith, q))
 
--- where f is 0 or d is, and d values have room, the places are proper
-side-proper : (neg : Bool) (e : Step) (d : ℕ) → e .i ≤ 33 → e .fl + 2 * e .f + 2 ≤ 32768 → (0 < e .f → d ≡ 0) → d ≤ room neg (e .fl) - 1 → Proper (side neg e d)
+-- where f is 0 or d is, and as many as d values have a place, the places are proper
+side-proper : (neg : Bool) (e : Step) (d : ℕ) → e .i ≤ 33 → e .fl + 2 * e .f + 2 ≤ 32768 → (0 < e .f → d ≡ 0) → d ≤ valuesWithPlace neg (e .fl) - 1
+    → Proper (side neg e d)
 side-proper neg e d n r z l =
     split-on (ltb 0 (e .f))
     (λ p. go neg (z (ltb-true 0 (e .f) p)))
@@ -161,7 +175,7 @@ side-proper neg e d n r z l =
     go true y = record { some = omega arith; within = omega arith; small = omega arith }
     go false y = record { some = omega arith; within = omega arith; small = omega arith }
 
-    tail : (b : Bool) → e .f ≤ 0 → d ≤ room b (e .fl) - 1 → Proper (side b e d)
+    tail : (b : Bool) → e .f ≤ 0 → d ≤ valuesWithPlace b (e .fl) - 1 → Proper (side b e d)
     tail true y h = record { some = omega arith; within = omega arith; small = omega arith }
     tail false y h = record { some = omega arith; within = omega arith; small = omega arith }
 
@@ -172,7 +186,7 @@ side-found neg fm e d z l u =
     split-on (ltb 0 (e .f))
     (λ p. rw p (sym (z (ltb-true 0 (e .f) p))))
     (λ p. rw p (half neg (ltb-false 0 (e .f) p) l u)) in
-    ap (λ (x : ℕ). toldAt fm e x) q ∙ ap (λ (b : Bool). side b e d) (sign neg l u)
+    ap (λ (x : ℕ). sideAt fm e x) q ∙ ap (λ (b : Bool). side b e d) (sign neg l u)
   where
     half : (b : Bool) → e .f ≤ 0 → side b e d .fl ≤ fm → fm < side b e d .fh → (fm - e .fl) / 2 ≡ d
     half true y h k = omega arith
@@ -187,6 +201,7 @@ side-low : (neg : Bool) (fm : ℕ) (e : Step) (d : ℕ) → side neg e d .fl ≤
 side-low true fm e d l = omega arith
 side-low false fm e d l = omega arith
 
+-- and before the next step's, where f is not 0
 side-high : (neg : Bool) (fm : ℕ) (e : Step) → fm < side neg e 0 .fh → fm < e .fl + 2 * e .f + 2
 side-high true fm e u = omega arith
 side-high false fm e u = omega arith
@@ -195,22 +210,26 @@ side-high false fm e u = omega arith
 pub deep-zero : (fm : ℕ) (e : Step) → 0 < e .f → deep fm e ≡ 0
 deep-zero fm e p = rw (lt-ltb 0 (e .f) p)
 
+-- past the chain's end each value has two places, one for each sign
 pub deep-half : (fm : ℕ) (e : Step) → e .f ≤ 0 → deep fm e ≡ (fm - e .fl) / 2
 deep-half fm e z = rw (le-ltb 0 (e .f) z)
 
+-- a reader stops at a step whose places end after its own
 stop-high : (fm : ℕ) (e : Step) → goesOn (past fm) e ≡ false → 0 < e .f → fm < e .fl + 2 * e .f + 2
 stop-high fm e t p = leb-false (e .fl + 2 * e .f + 2) fm (rw (lt-ltb 0 (e .f) p) at t)
 
 -- where it is, in numbers
-deep-at : (fm : ℕ) (e : Step) → e .fl ≤ fm → (0 < e .f → fm < e .fl + 2 * e .f + 2) → (e .fl + 2 * deep fm e ≤ fm) × (fm < e .fl + 2 * deep fm e + (2 * e .f + 2))
+deep-at : (fm : ℕ) (e : Step) → e .fl ≤ fm → (0 < e .f → fm < e .fl + 2 * e .f + 2)
+    → (e .fl + 2 * deep fm e ≤ fm) × (fm < e .fl + 2 * deep fm e + (2 * e .f + 2))
 deep-at fm e l u =
     split-on (ltb 0 (e .f))
     (λ p. let h = u (ltb-true 0 (e .f) p) in rw p (omega arith, omega arith))
     (λ p. let h = ltb-false 0 (e .f) p in rw p (omega arith, omega arith))
 
-told-proper : (fm : ℕ) (e : Step) → e .i ≤ 33 → e .fl + 2 * e .f + 2 ≤ 32768 → e .fl ≤ fm → fm < 32768 → (0 < e .f → fm < e .fl + 2 * e .f + 2)
+-- so what it finds has places that can be coded, its own among them
+located-proper : (fm : ℕ) (e : Step) → e .i ≤ 33 → e .fl + 2 * e .f + 2 ≤ 32768 → e .fl ≤ fm → fm < 32768 → (0 < e .f → fm < e .fl + 2 * e .f + 2)
     → Proper (locateAt fm e) × (locateAt fm e .fl ≤ fm) × (fm < locateAt fm e .fh)
-told-proper fm e n r l h u =
+located-proper fm e n r l h u =
     let q = deep-at fm e l u in
     split-on (ltb 0 (e .f))
     (λ p. let z = deep-zero fm e (ltb-true 0 (e .f) p) in
@@ -227,17 +246,18 @@ told-proper fm e n r l h u =
     rw t (record { some = omega arith; within = omega arith; small = omega arith }, omega arith, omega arith)))
 
 -- a writer of the value that a reader found at a step, at the same step, codes the same
-over-is : (neg : Bool) (fm : ℕ) (e : Step) → e .fl ≤ fm → fm < 32768 → ltb fm (e .fl + 2 * deep fm e + e .f + 1) ≡ neg
-    → over neg (e .i + deep fm e) e ≡ deep fm e
-over-is true fm e l h t =
+beyond-found : (neg : Bool) (fm : ℕ) (e : Step) → e .fl ≤ fm → fm < 32768 → ltb fm (e .fl + 2 * deep fm e + e .f + 1) ≡ neg
+    → beyond neg (e .i + deep fm e) e ≡ deep fm e
+beyond-found true fm e l h t =
     let t′ = ltb-true fm (e .fl + 2 * deep fm e + e .f + 1) t in
     split-on (ltb 0 (e .f)) (λ p. rw p) (λ p. let z = ltb-false 0 (e .f) p in rw p (omega (arith, rw p at t′)))
-over-is false fm e l h t =
+beyond-found false fm e l h t =
     let t′ = ltb-false fm (e .fl + 2 * deep fm e + e .f + 1) t in
     split-on (ltb 0 (e .f)) (λ p. rw p) (λ p. let z = ltb-false 0 (e .f) p in rw p (omega (arith, rw p at t′)))
 
-told-span : (fm : ℕ) (e : Step) → e .fl ≤ fm → fm < 32768 → spanAt (locateAt fm e .neg) (locateAt fm e .mag) e ≡ locateAt fm e
-told-span fm e l h = ap (λ (x : ℕ). side (ltb fm (e .fl + 2 * deep fm e + e .f + 1)) e x) (over-is _ fm e l h refl)
+-- so the two agree on the whole span
+located-span : (fm : ℕ) (e : Step) → e .fl ≤ fm → fm < 32768 → spanAt (locateAt fm e .neg) (locateAt fm e .mag) e ≡ locateAt fm e
+located-span fm e l h = ap (λ (x : ℕ). side (ltb fm (e .fl + 2 * deep fm e + e .f + 1)) e x) (beyond-found _ fm e l h refl)
 
 -- ---- the laws
 
@@ -248,9 +268,9 @@ module _ (fs dec : ℕ) (ok : Legal fs dec) where
   span-proper neg a =
       split-on (ltb 0 a)
       (λ p.
-      let e : Step = walk (upTo a) 32 dec (first fs dec) in
-      let w : Went 32 (first fs dec) e = walk-went (upTo a) 32 dec (first fs dec) (ok .ended) in
-      rw p (side-proper neg e _ (w .most) (w .room) (over-zero neg a e) (over-le neg a e)))
+      let e : Step = walk (upTo a) 32 dec (firstStep fs dec) in
+      let w : Went 32 (firstStep fs dec) e = walk-went (upTo a) 32 dec (firstStep fs dec) (ok .ended) in
+      rw p (side-proper neg e _ (w .most) (w .within) (beyond-zero neg a e) (beyond-le neg a e)))
       (λ p. rw p (record { some = ok .some; within = omega (arith, ok .most); small = omega arith }))
 
   -- a reader of a place of a value finds the value and its places
@@ -259,16 +279,16 @@ module _ (fs dec : ℕ) (ok : Legal fs dec) where
   span-found neg a fm l u =
       split-on (ltb 0 a)
       (λ p.
-      let e : Step = walk (upTo a) 32 dec (first fs dec) in
-      let d : ℕ = over neg a e in
+      let e : Step = walk (upTo a) 32 dec (firstStep fs dec) in
+      let d : ℕ = beyond neg a e in
       let l′ : side neg e d .fl ≤ fm = rw p at l in
       let u′ : fm < side neg e d .fh = rw p at u in
-      let w : Went 32 (first fs dec) e = walk-went (upTo a) 32 dec (first fs dec) (ok .ended) in
+      let w : Went 32 (firstStep fs dec) e = walk-went (upTo a) 32 dec (firstStep fs dec) (ok .ended) in
       let low : e .fl ≤ fm = side-low neg fm e d l′ in
-      let g : walk (past fm) 32 dec (first fs dec) ≡ e =
-      agree a fm 32 dec (first fs dec) (ok .ended) low
-      (λ h. side-high neg fm e (rw (over-zero neg a e h) at u′)) in
-      rw (p, le-ltb fm fs (omega arith), g) (side-found neg fm e d (over-zero neg a e) l′ u′))
+      let g : walk (past fm) 32 dec (firstStep fs dec) ≡ e =
+      agree a fm 32 dec (firstStep fs dec) (ok .ended) low
+      (λ h. side-high neg fm e (rw (beyond-zero neg a e h) at u′)) in
+      rw (p, le-ltb fm fs (omega arith), g) (side-found neg fm e d (beyond-zero neg a e) l′ u′))
       (λ p.
       let u′ : fm < fs = rw p at u in
       rw (p, lt-ltb fm fs u′))
@@ -280,10 +300,10 @@ module _ (fs dec : ℕ) (ok : Legal fs dec) where
       split-on (ltb fm fs)
       (λ p. rw p (record { some = ok .some; within = omega (arith, ok .most); small = omega arith }, omega arith, ltb-true fm fs p))
       (λ p.
-      let e : Step = walk (past fm) 32 dec (first fs dec) in
-      let w : Went 32 (first fs dec) e = walk-went (past fm) 32 dec (first fs dec) (ok .ended) in
-      let l : e .fl ≤ fm = past-le fm 32 dec (first fs dec) (ltb-false fm fs p) in
-      rw p (told-proper fm e (w .most) (w .room) l h (stop-high fm e (walk-stops (past fm) 32 dec (first fs dec) (ok .ended)))))
+      let e : Step = walk (past fm) 32 dec (firstStep fs dec) in
+      let w : Went 32 (firstStep fs dec) e = walk-went (past fm) 32 dec (firstStep fs dec) (ok .ended) in
+      let l : e .fl ≤ fm = past-le fm 32 dec (firstStep fs dec) (ltb-false fm fs p) in
+      rw p (located-proper fm e (w .most) (w .within) l h (stop-high fm e (walk-stops (past fm) 32 dec (firstStep fs dec) (ok .ended)))))
 
   -- and it is what a writer of that value codes
   pub found-span : (fm : ℕ) → fm < 32768 → spanOf (locate fm fs dec .neg) (locate fm fs dec .mag) fs dec ≡ locate fm fs dec
@@ -292,11 +312,11 @@ module _ (fs dec : ℕ) (ok : Legal fs dec) where
       split-on (ltb fm fs)
       (λ p. rw p)
       (λ p.
-      let e : Step = walk (past fm) 32 dec (first fs dec) in
-      let w : Went 32 (first fs dec) e = walk-went (past fm) 32 dec (first fs dec) (ok .ended) in
-      let l : e .fl ≤ fm = past-le fm 32 dec (first fs dec) (ltb-false fm fs p) in
-      let g : walk (upTo (e .i + deep fm e)) 32 dec (first fs dec) ≡ e = agree-back fm (deep fm e) 32 dec (first fs dec) (ok .ended) (deep-zero fm e) in
-      rw (p, lt-ltb 0 (e .i + deep fm e) (omega arith), g) (told-span fm e l h))
+      let e : Step = walk (past fm) 32 dec (firstStep fs dec) in
+      let w : Went 32 (firstStep fs dec) e = walk-went (past fm) 32 dec (firstStep fs dec) (ok .ended) in
+      let l : e .fl ≤ fm = past-le fm 32 dec (firstStep fs dec) (ltb-false fm fs p) in
+      let g : walk (upTo (e .i + deep fm e)) 32 dec (firstStep fs dec) ≡ e = agree-back fm (deep fm e) 32 dec (firstStep fs dec) (ok .ended) (deep-zero fm e) in
+      rw (p, lt-ltb 0 (e .i + deep fm e) (omega arith), g) (located-span fm e l h))
 
   -- a value that a writer codes is coded as itself
   pub span-again : (neg : Bool) (a : ℕ) → spanOf (spanOf neg a fs dec .neg) (spanOf neg a fs dec .mag) fs dec ≡ spanOf neg a fs dec
@@ -305,42 +325,24 @@ module _ (fs dec : ℕ) (ok : Legal fs dec) where
       let q = span-found neg a (spanOf neg a fs dec .fl) (le-refl _) (r .some) in
       rw q at (found-span (spanOf neg a fs dec .fl) (omega arith))
 
-  -- no place belongs to two values
-  pub span-apart : (neg neg′ : Bool) (a a′ fm : ℕ) → spanOf neg a fs dec .fl ≤ fm → fm < spanOf neg a fs dec .fh
-      → spanOf neg′ a′ fs dec .fl ≤ fm → fm < spanOf neg′ a′ fs dec .fh → spanOf neg a fs dec ≡ spanOf neg′ a′ fs dec
-  span-apart neg neg′ a a′ fm l u l′ u′ = sym (span-found neg a fm l u) ∙ span-found neg′ a′ fm l′ u′
-
 -- ---- the definitions' two cases
 
-pub span-more : (neg : Bool) (a fs dec : ℕ) → 0 < a → spanAt neg a (walk (upTo a) 32 dec (first fs dec)) ≡ spanOf neg a fs dec
+-- a value that is not zero
+pub span-more : (neg : Bool) (a fs dec : ℕ) → 0 < a → spanAt neg a (walk (upTo a) 32 dec (firstStep fs dec)) ≡ spanOf neg a fs dec
 unfolding spanOf
 span-more neg a fs dec h = rw (lt-ltb 0 a h)
 
-pub span-none : (neg : Bool) (a fs dec : ℕ) → a ≤ 0 → none fs ≡ spanOf neg a fs dec
+-- zero
+pub span-none : (neg : Bool) (a fs dec : ℕ) → a ≤ 0 → zeroSpan fs ≡ spanOf neg a fs dec
 unfolding spanOf
 span-none neg a fs dec h = rw (le-ltb 0 a h)
 
-pub locate-none : (fm fs dec : ℕ) → fm < fs → none fs ≡ locate fm fs dec
+-- a place of zero
+pub locate-none : (fm fs dec : ℕ) → fm < fs → zeroSpan fs ≡ locate fm fs dec
 unfolding locate
 locate-none fm fs dec h = rw (lt-ltb fm fs h)
 
-pub locate-more : (fm fs dec : ℕ) → fs ≤ fm → locateAt fm (walk (past fm) 32 dec (first fs dec)) ≡ locate fm fs dec
+-- a later place
+pub locate-more : (fm fs dec : ℕ) → fs ≤ fm → locateAt fm (walk (past fm) 32 dec (firstStep fs dec)) ≡ locate fm fs dec
 unfolding locate
 locate-more fm fs dec h = rw (le-ltb fm fs h)
-
--- ---- when a value is coded as itself: where the walk stops short of the chain's end, and past it as long as there is room
-
-pub exact-on : (neg : Bool) (a fs dec : ℕ) → Legal fs dec → 0 < a → 0 < walk (upTo a) 32 dec (first fs dec) .f → spanOf neg a fs dec .mag ≡ a
-exact-on neg a fs dec ok h p =
-    let e : Step = walk (upTo a) 32 dec (first fs dec) in
-    let t = walk-stops (upTo a) 32 dec (first fs dec) (ok .ended) in
-    let g : a ≤ e .i = ltb-false (e .i) a (rw (lt-ltb 0 (e .f) p) at t) in
-    let l : e .i ≤ a = upTo-le a 32 dec (first fs dec) h in
-    rw (sym (span-more neg a fs dec h), over-zero neg a e p) (omega arith)
-
-pub exact-tail : (neg : Bool) (a fs dec : ℕ) → Legal fs dec → 0 < a → walk (upTo a) 32 dec (first fs dec) .f ≤ 0
-    → a < walk (upTo a) 32 dec (first fs dec) .i + room neg (walk (upTo a) 32 dec (first fs dec) .fl) → spanOf neg a fs dec .mag ≡ a
-exact-tail neg a fs dec ok h p u =
-    let e : Step = walk (upTo a) 32 dec (first fs dec) in
-    let l : e .i ≤ a = upTo-le a 32 dec (first fs dec) h in
-    rw (sym (span-more neg a fs dec h), le-ltb 0 (e .f) p) (omega arith)

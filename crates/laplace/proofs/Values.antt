@@ -3,11 +3,11 @@ use Prim.Native.Nat.{ℕ, zero, suc, _+_, _*_, _/_, _%_, _≤_, _<_}
 use mathlib.Core.Path.{_≡_, refl, ap, sym, _∙_}
 use mathlib.Core.Bool.{Bool, true, false}
 use native.Mathlib.Omega.{arith}
-use lib.Dec.{leb, eqb}
+use lib.Dec.{leb}
 use lib.IntN.{ℤ, pos, negsuc, natAbs}
-use borrow.Author.Tests.{le-ltb, eq-eqb, eqb-true, eqb-false, le-leb, lt-leb}
-use Rattle.laws.specs.Signs.{isNeg, valueOf}
-use Rattle.laws.proofs.Tests.{split-on, by-le}
+use borrow.Author.Tests.{le-ltb, eq-eqb, le-leb, lt-leb}
+use Rattle.laws.specs.Signs.{isNeg, withSign}
+use Rattle.laws.proofs.Tests.{by-le}
 use Rattle.laws.proofs.Signs.{value-range}
 use Rattle.modes.proofs.Laplace.{Legal}
 use Rattle.laplace.specs.Chain.{spanOf, locate, Proper}
@@ -17,6 +17,7 @@ use Rattle.laplace.proofs.Spans.{span-proper, span-found, found-proper,
 
 -- ---- counting
 
+-- the value of a value's count is that value
 pub value-code : (z : ℤ) → valueAt (codeOf z) ≡ z
 unfolding valueAt
 value-code (pos n) =
@@ -27,16 +28,6 @@ value-code (negsuc n) =
     let a : (2 * n + 1) % 2 ≡ 1 = omega arith in
     let b : (2 * n + 1) / 2 ≡ n = omega arith in
     rw (a, b)
-
-pub code-value : (v : ℕ) → codeOf (valueAt v) ≡ v
-unfolding valueAt
-code-value v =
-    split-on (eqb (v % 2) 0)
-    (λ e. let z = eqb-true (v % 2) 0 e in rw e (omega arith))
-    (λ e. let z = eqb-false (v % 2) 0 e in rw e (odd v z))
-  where
-    odd : (v : ℕ) → (v % 2 ≡ 0 → ⊥) → 2 * (v / 2) + 1 ≡ v
-    odd v z = by-le (v % 2) 0 (λ h. absurd (z (omega arith))) (λ h. omega arith)
 
 -- the counts of the values in the domain are those up to 65,535
 pub domain-code : (z : ℤ) → leb (codeOf z) 65535 ≡ inDomain z
@@ -51,7 +42,8 @@ domain-code (negsuc n) =
 
 -- ---- the places of whole numbers
 
-pub span-value : (neg : Bool) (n fs dec : ℕ) → spanZ (valueOf neg n) fs dec ≡ spanOf neg n fs dec
+-- by sign and size, or as a whole number
+pub span-value : (neg : Bool) (n fs dec : ℕ) → spanZ (withSign neg n) fs dec ≡ spanOf neg n fs dec
 unfolding spanZ spanOf
 span-value true zero fs dec = refl
 span-value true (suc n) fs dec = refl
@@ -88,8 +80,3 @@ module _ (fs dec : ℕ) (ok : Legal fs dec) where
   -- a place belongs to one value only: any value that has it counts as the one that is found there
   pub place-one : (z : ℤ) (fm : ℕ) → spanZ z fs dec .fl ≤ fm → fm < spanZ z fs dec .fh → adjusted z fs dec ≡ valueIn (locate fm fs dec)
   place-one z fm l u = ap valueIn (sym (locate-span z fm l u))
-
-  -- two values that share a place count as the same
-  pub values-apart : (z z′ : ℤ) (fm : ℕ) → spanZ z fs dec .fl ≤ fm → fm < spanZ z fs dec .fh → spanZ z′ fs dec .fl ≤ fm → fm < spanZ z′ fs dec .fh
-      → adjusted z fs dec ≡ adjusted z′ fs dec
-  values-apart z z′ fm l u l′ u′ = place-one z fm l u ∙ sym (place-one z′ fm l′ u′)

@@ -5,7 +5,7 @@ use lib.IntN.{ℤ}
 use Rattle.entcode.specs.Said.{Said, answer, lentAfter}
 use Rattle.entcode.specs.Said.Said.{done, refused}
 use Rattle.entcode.specs.Sym.{Shape, adjust}
-use Rattle.entcode.specs.Sym.Shape.{one}
+use Rattle.entcode.specs.Sym.Shape.{modelled}
 use Rattle.entdec.specs.declared.Reader.{Reader}
 use Rattle.entdec.specs.Symbols.{readSym}
 use Rattle.entdec.specs.Rule.{refusalR}
@@ -22,7 +22,7 @@ use Rattle.laplace.specs.Model.{codeOf, valueAt, lapModel}
 
 -- the kind of symbol of a pair
 abbrev pub lap : ℕ → ℕ → Shape
-lap fs dec = one (lapModel fs dec)
+lap fs dec = modelled (lapModel fs dec)
 
 -- ---- reading
 
@@ -32,7 +32,7 @@ readLap fs dec s d = record { value = valueAt (readSym (lap fs dec) s d .value);
 
 -- what an answer of a read says
 abbrev pub saidRead : LapRead → Said LapSym
-saidRead (got.Got y) = done y
+saidRead (got.Done y) = done y
 saidRead (got.Refused n) = refused n
 
 -- a checked read
@@ -51,7 +51,7 @@ writeLap fs dec z w = writeSym (lap fs dec) (codeOf z) w
 
 -- what an answer of a write says
 abbrev pub saidWrote : LapWrote → Said LapDone
-saidWrote (wrote.Next y) = done y
+saidWrote (wrote.Done y) = done y
 saidWrote (wrote.Refused n) = refused n
 
 -- what is said, and the lent bytes after the call
@@ -59,6 +59,7 @@ pub record After : Type 0 where
   pub said : Said LapDone
   pub bytes : List ℕ
 
+-- made of its two parts
 abbrev pub after : LapWrote → List ℕ → After
 after r l = record { said = saidWrote r; bytes = l }
 

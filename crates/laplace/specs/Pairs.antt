@@ -1,4 +1,5 @@
--- Document 01, "Domain in numbers": the pair of a Laplace value is one of the coarse-energy model's.
+-- Document 01, "Domain in numbers": the pair of a Laplace value is one of the coarse-energy model's. This is what the contracts cite;
+-- modes/specs/EnergyModel.antt says which other forms of the pairs there are.
 use Prim.Native.Nat.{ℕ, zero, suc}
 use mathlib.Core.Bool.{Bool, false, _&&_, _||_}
 use lib.Dec.{eqb}

@@ -2,7 +2,7 @@
 use Prim.Native.Nat.{ℕ}
 use mathlib.Core.Bool.{Bool}
 use lib.IntN.{ℤ, pos, negsuc, natAbs}
-use Rattle.laws.specs.Signs.{inRange, isNeg, valueOf}
+use Rattle.laws.specs.Signs.{inRange, isNeg, withSign}
 use Rattle.laplace.specs.declared.chain.Span.{Span}
 use Rattle.laplace.specs.Chain.{spanOf}
 
@@ -12,7 +12,7 @@ inDomain z = inRange (negsuc 32767) (pos 32767) z
 
 -- the value whose places these are
 abbrev pub valueIn : Span → ℤ
-valueIn r = valueOf (r .neg) (r .mag)
+valueIn r = withSign (r .neg) (r .mag)
 
 -- the value that stands for z, and its places
 unfoldable pub spanZ : ℤ → ℕ → ℕ → Span

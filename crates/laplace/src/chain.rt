@@ -3,7 +3,7 @@ ghost use mathlib.Core.Path.{_≡_};
 ghost use mathlib.Core.Bool.{true};
 ghost use Prim.Native.Nat.{_+_, _*_, _≤_, _<_};
 ghost use Rattle.modes.specs.Laplace.{freq1, legal};
-ghost use Rattle.laplace.specs.Chain.{first, next, walk, upTo, past, side, room, spanAt, spanOf, toldAt, locateAt, locate, Proper};
+ghost use Rattle.laplace.specs.Chain.{firstStep, nextStep, walk, upTo, past, side, valuesWithPlace, spanAt, spanOf, sideAt, locateAt, locate, Proper};
 ghost use Rattle.laplace.specs.Signed.{spanZ};
 
 // The places of -i and i begin at fl, f + 1 for each.
@@ -32,7 +32,7 @@ fn freq1_of(fs: u32, decay: u32) -> u32
 // The chain's first step.
 fn first_of(fs: u32, decay: u32) -> Step
     requires { ⌜ (fs ≤ 32736) × (decay ≤ 16384) ⌝ }
-    ensures { λ r. ⌜ r ≡ first fs decay ⌝ }
+    ensures { λ r. ⌜ r ≡ firstStep fs decay ⌝ }
 {
     Step {
         fl: fs,
@@ -45,7 +45,7 @@ impl Step {
     // The chain's next step.
     fn next(self, decay: u32) -> Step
         requires { ⌜ (self .fl + 2 * self .f + 2 ≤ 32768) × (self .i ≤ 32) × (decay ≤ 16384) ⌝ }
-        ensures { λ r. ⌜ r ≡ next decay self ⌝ }
+        ensures { λ r. ⌜ r ≡ nextStep decay self ⌝ }
     {
         let w = 2 * self.f;
         Step {
@@ -59,7 +59,7 @@ impl Step {
 // Along the chain to the value a.
 fn walk_to(fs: u32, decay: u32, a: u32) -> Step
     requires { ⌜ legal fs decay ≡ true ⌝ }
-    ensures { λ r. ⌜ r ≡ walk (upTo a) 32 decay (first fs decay) ⌝ }
+    ensures { λ r. ⌜ r ≡ walk (upTo a) 32 decay (firstStep fs decay) ⌝ }
 {
     let mut s = first_of(fs, decay);
     while (0 < s.f) & (s.i < a) {
@@ -71,7 +71,7 @@ fn walk_to(fs: u32, decay: u32, a: u32) -> Step
 // Along the chain to the value that has the place fm.
 fn walk_past(fs: u32, decay: u32, fm: u32) -> Step
     requires { ⌜ legal fs decay ≡ true ⌝ }
-    ensures { λ r. ⌜ r ≡ walk (past fm) 32 decay (first fs decay) ⌝ }
+    ensures { λ r. ⌜ r ≡ walk (past fm) 32 decay (firstStep fs decay) ⌝ }
 {
     let mut s = first_of(fs, decay);
     while (0 < s.f) & (s.fl + 2 * s.f + 2 <= fm) {
@@ -81,9 +81,9 @@ fn walk_past(fs: u32, decay: u32, fm: u32) -> Step
 }
 
 // How many values of a sign have a place from fl on, one each.
-fn room_of(neg: bool, fl: u32) -> u32
+fn values_with_place(neg: bool, fl: u32) -> u32
     requires { ⌜ fl ≤ 32766 ⌝ }
-    ensures { λ r. ⌜ r ≡ room neg fl ⌝ }
+    ensures { λ r. ⌜ r ≡ valuesWithPlace neg fl ⌝ }
 {
     if neg {
         (32768 - fl + 1) / 2
@@ -124,7 +124,7 @@ impl Step {
         if 0 < self.f {
             self.side(neg, 0)
         } else {
-            let most = room_of(neg, self.fl) - 1;
+            let most = values_with_place(neg, self.fl) - 1;
             let d = a - self.i;
             if d < most {
                 self.side(neg, d)
@@ -135,9 +135,9 @@ impl Step {
     }
 
     // Of the values i + d and its negative, the one that has the place fm.
-    fn told(self, fm: u32, d: u32) -> Span
+    fn side_at(self, fm: u32, d: u32) -> Span
         requires { ⌜ (self .fl + 2 * d + (2 * self .f + 2) ≤ 98304) × (self .i + d ≤ 65536) ⌝ }
-        ensures { λ r. ⌜ r ≡ toldAt fm self d ⌝ }
+        ensures { λ r. ⌜ r ≡ sideAt fm self d ⌝ }
     {
         self.side(fm < self.fl + 2 * d + self.f + 1, d)
     }
@@ -148,9 +148,9 @@ impl Step {
         ensures { λ r. ⌜ r ≡ locateAt fm self ⌝ }
     {
         if 0 < self.f {
-            self.told(fm, 0)
+            self.side_at(fm, 0)
         } else {
-            self.told(fm, (fm - self.fl) / 2)
+            self.side_at(fm, (fm - self.fl) / 2)
         }
     }
 }
@@ -178,7 +178,7 @@ pub fn span_of(value: i32, fs: u32, decay: u32) -> Span
     requires { ⌜ legal fs decay ≡ true ⌝ }
     ensures { λ r. ⌜ (r ≡ spanZ value fs decay) × Proper r ⌝ }
 {
-    span_by(value < 0, laws::size(value), fs, decay)
+    span_by(value < 0, laws::unsigned_abs(value), fs, decay)
 }
 
 // The value that has the place fm, and its places.

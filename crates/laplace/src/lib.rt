@@ -1,7 +1,7 @@
 // Laplace values read and written: RFC 6716, section 4.3.2.1.
 ghost use mathlib.Core.Path.{_≡_};
-ghost use Rattle.entenc.specs.Write.{Wr, wr};
-ghost use Rattle.laplace.specs.Answer.{saidRead, reading, After, after, writing};
+ghost use Rattle.entenc.specs.Write.{wr};
+ghost use Rattle.laplace.specs.Answer.{saidRead, reading, after, writing};
 use entdec::Reader;
 use entenc::Writer;
 
@@ -17,7 +17,7 @@ pub struct LapSym {
 
 // What a read answers: what was read, or the number of the refusal.
 pub enum LapRead {
-    Got(LapSym),
+    Done(LapSym),
     Refused(u32),
 }
 
@@ -29,7 +29,7 @@ pub struct LapDone {
 
 // What a write answers: what was written, or the number of the refusal.
 pub enum LapWrote {
-    Next(LapDone),
+    Done(LapDone),
     Refused(u32),
 }
 
@@ -40,7 +40,7 @@ pub fn ec_laplace_decode(d: Reader, s: &[u8], fs: u32, decay: u32) -> LapRead
     let known = pairs::pair_known(fs, decay);
     let no = d.refusal(s.len(), true, known, true, 0);
     if no == 0 {
-        LapRead::Got(work::read(d, s, fs, decay))
+        LapRead::Done(work::read(d, s, fs, decay))
     } else {
         LapRead::Refused(no)
     }
@@ -54,7 +54,7 @@ pub fn ec_laplace_encode(w: Writer, buf: &mut [u8], value: i32, fs: u32, decay: 
     let no = w.refusal(buf.len(), true, ok, true, 0);
     if no == 0 {
         let y = work::write(w, buf, value, fs, decay);
-        LapWrote::Next(y)
+        LapWrote::Done(y)
     } else {
         LapWrote::Refused(no)
     }

@@ -1,4 +1,4 @@
-// The pairs of the coarse-energy model, found by their share of zero: document 01, "Domain in numbers".
+// Whether a pair is one of the coarse-energy model's, found by its share of zero: document 01, "Domain in numbers".
 ghost use mathlib.Core.Path.{_≡_};
 ghost use Rattle.laplace.specs.Pairs.{pairKnown};
 ghost use Rattle.laplace.specs.Rows.{decaysFor, holds};

@@ -4,7 +4,7 @@ ghost use mathlib.Core.Bool.{true};
 ghost use Rattle.modes.specs.Laplace.{legal};
 ghost use Rattle.entdec.specs.Ready.{Ready};
 ghost use Rattle.entenc.specs.Ready.{Ready as Writable};
-ghost use Rattle.entenc.specs.Write.{Wr, wr};
+ghost use Rattle.entenc.specs.Write.{wr};
 ghost use Rattle.laplace.specs.Answer.{readLap, writtenAs, writeLap};
 use super::LapDone;
 use super::LapSym;
@@ -18,9 +18,9 @@ pub fn read(d: Reader, s: &[u8], fs: u32, decay: u32) -> LapSym
     requires { ⌜ legal fs decay ≡ true ⌝ }
     ensures { λ r. ⌜ r ≡ readLap fs decay (now (s .entry)) d ⌝ }
 {
-    let fm = d.place(32768);
+    let fm = d.decoded_place(32768);
     let r = chain::locate(fm, fs, decay);
-    let next = d.take(s, r.fl, r.fh, 32768, d.rng / 32768);
+    let next = d.update(s, r.fl, r.fh, 32768, d.rng / 32768);
     LapSym {
         value: laws::value_of(r.neg, r.mag),
         next,

@@ -12,6 +12,7 @@ use borrow.Author.Tests.{lt-ltb, le-ltb}
 
 -- ---- compared
 
+-- below the infinity: finite where the other infinity is below
 pub finite-below : (x : Float) → lt x (inf false) ≡ true → lt (inf true) x ≡ finite x
 unfolding lt
 finite-below nan h = refl
@@ -19,6 +20,7 @@ finite-below (inf true) h = refl
 finite-below (inf false) h = sym h
 finite-below (fin s m e) h = refl
 
+-- not below the infinity: not finite
 pub finite-above : (x : Float) → lt x (inf false) ≡ false → false ≡ finite x
 unfolding lt
 finite-above nan h = refl
@@ -39,12 +41,14 @@ finite-no-nan (fin s m e) h = tt
 pub bits-no-nan : (b : ℕ) → b % 2147483648 ≤ 2139095040 → T (not (nanBits binary32 b))
 bits-no-nan b h = rw (nanBits-above binary32 b, le-ltb 2139095040 (b % 2147483648) h) tt
 
+-- a NaN is not finite
 nan-not-finite : (x : Float) → isNan x ≡ true → finite x ≡ false
 unfolding isNan
 nan-not-finite nan h = refl
 nan-not-finite (inf s) h = refl
 nan-not-finite (fin s m e) h = sym h
 
+-- a bit pattern above that of the infinity is no finite value
 pub bits-nan : (b : ℕ) → 2139095040 < b % 2147483648 → finite (ofBits binary32 b) ≡ false
 bits-nan b h =
     nan-not-finite (ofBits binary32 b) (sym (nanBits-is binary32 b) ∙ nanBits-above binary32 b ∙ lt-ltb 2139095040 (b % 2147483648) h)

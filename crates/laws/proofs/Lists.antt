@@ -9,24 +9,21 @@ use native.Mathlib.Nat.{add-zero, eq-or-lt-of-le}
 use native.Mathlib.Numerals.{add-one}
 use native.Mathlib.Omega.{arith}
 use lib.Dec.{leb}
-use lib.ListN.{length, getD, set, take, drop, replicate, length-set, length-drop, drop-of-length-le}
-use lib.Seq.{take-all, take-suc, take-suc-set, drop-cons, drop-drop, drop-set-lt, set-comm, getD-set-same, getD-set-other, sets}
+use lib.ListN.{length, getD, set, take, drop, length-set, length-drop, drop-of-length-le}
+use lib.Seq.{take-all, take-suc, take-suc-set, drop-cons, set-comm, getD-set-same, getD-set-other, sets}
 use borrow.Author.Tests.{le-leb, leb-true}
 use Rattle.laws.specs.Lists.{every, fill, AllLe}
 
 module _ {A : Type 0} where
   -- ---- one place on
 
+  -- what is left from i on begins with the entry at i
   pub drop-next : (l : List A) (i : ℕ) (d : A) → i < length l → drop i l ≡ getD l i d ∷ drop (i + 1) l
   drop-next l i d h = rw add-one (drop-cons l i d h)
 
+  -- the first i entries and the next
   pub take-next : (l : List A) (i : ℕ) (d : A) → i < length l → take (i + 1) l ≡ take i l ++ (getD l i d ∷ [])
   take-next l i d h = rw add-one (take-suc l i d h)
-
-  -- a store at i leaves what comes after it
-  pub drop-set-next : (l m : List A) (i : ℕ) (x : A) → drop i l ≡ drop i m → drop (i + 1) (set l i x) ≡ drop (i + 1) m
-  drop-set-next l m i x e =
-      drop-set-lt (i + 1) l i x (omega arith) ∙ sym (drop-drop 1 i l) ∙ ap (λ (k : List A). drop 1 k) e ∙ drop-drop 1 i m
 
   -- stores from the last backwards
   pub sets-last : (xs l : List A) (at : ℕ) (y : A) → sets (set l (at + length xs) y) at xs ≡ sets l at (xs ++ y ∷ [])
@@ -43,13 +40,6 @@ module _ {A : Type 0} where
   pub rest-is : (l : List A) (a : ℕ) → take (length l - a) (drop a l) ≡ drop a l
   rest-is l a = take-all (length l - a) (drop a l) (omega (arith, length-drop a l))
 
-  pub drop-replicate : (n m : ℕ) (x : A) → drop n (replicate m x) ≡ replicate (m - n) x
-  drop-replicate zero m x = let e : m ≡ m - 0 = omega arith in ap (λ (k : ℕ). replicate k x) e
-  drop-replicate (suc n) zero x = let e : 0 ≡ 0 - suc n = omega arith in ap (λ (k : ℕ). replicate k x) e
-  drop-replicate (suc n) (suc m) x =
-      let e : m - n ≡ suc m - suc n = omega arith in
-      drop-replicate n m x ∙ ap (λ (k : ℕ). replicate k x) e
-
   -- what holds of a stored value, and of the entry before it, holds of the entry after it
   pub set-keeps : (P : A → Type 0) (l : List A) (j : ℕ) (x d : A) → P x → (i : ℕ) → P (getD l i d) → P (getD (set l j x) i d)
   set-keeps P [] j x d g i h = h
@@ -61,6 +51,7 @@ module _ {A : Type 0} where
   -- ---- a test of every entry
 
   module _ (f : A → Bool) where
+    -- an entry of a list that passes the test passes it
     pub every-at : (l : List A) (d : A) → every f l ≡ true → (i : ℕ) → i < length l → f (getD l i d) ≡ true
     unfolding every
     every-at [] d t i h = absurd (omega arith)
@@ -76,6 +67,7 @@ module _ {A : Type 0} where
 
     -- a loop that goes up: what is left of the test
     module _ (l : List A) (i : ℕ) (d : A) (h : i < length l) where
+      -- the entry at i apart
       every-step : every f (drop i l) ≡ (f (getD l i d) && every f (drop (i + 1) l))
       unfolding every
       every-step = rw (drop-next l i d h)
@@ -93,10 +85,12 @@ module _ {A : Type 0} where
   -- ---- a list filled by f
 
   module _ (f : ℕ → A) where
+    -- nothing is filled where a loop begins
     pub fill-none : (start : ℕ) (l : List A) → l ≡ fill f start (start - start) l
     unfolding fill
     fill-none start l = let e : start - start ≡ 0 = omega arith in rw e
 
+    -- the last place apart
     fill-last : (n start : ℕ) (l : List A) → fill f start (suc n) l ≡ set (fill f start n l) (start + n) (f (start + n))
     unfolding fill
     fill-last zero start l = rw add-zero
@@ -114,6 +108,7 @@ module _ {A : Type 0} where
         let g : start + (i - start) ≡ i = omega arith in
         rw (e, fill-last (i - start) start l, g, p, q)
 
+    -- one entry more, downwards
     pub fill-down : (i end : ℕ) (l : List A) {b : List A} {r : A} → 0 < i → i ≤ end → b ≡ fill f i (end - i) l → r ≡ f (i - 1)
         → set b (i - 1) r ≡ fill f (i - 1) (end - (i - 1)) l
     unfolding fill
@@ -122,11 +117,13 @@ module _ {A : Type 0} where
         let s : suc (i - 1) ≡ i = omega arith in
         rw (e, s, p, q)
 
+    -- filling keeps the length
     pub fill-length : (n start : ℕ) (l : List A) → length (fill f start n l) ≡ length l
     unfolding fill
     fill-length zero start l = refl
     fill-length (suc n) start l = length-set (fill f (suc start) n l) start (f start) ∙ fill-length n (suc start) l
 
+    -- a filled place holds its value
     pub fill-in : (n start i : ℕ) (l : List A) (d : A) → start ≤ i → i < start + n → i < length l → getD (fill f start n l) i d ≡ f i
     unfolding fill
     fill-in zero start i l d h g k = absurd (omega arith)
@@ -135,18 +132,21 @@ module _ {A : Type 0} where
         (λ e. getD-set-other (fill f (suc start) n l) start i (f start) d (λ (q : i ≡ start). omega arith) ∙ fill-in n (suc start) i l d e (omega arith) k)
         (eq-or-lt-of-le h)
 
+    -- places before the filled ones stay
     pub fill-below : (n start i : ℕ) (l : List A) (d : A) → i < start → getD (fill f start n l) i d ≡ getD l i d
     unfolding fill
     fill-below zero start i l d h = refl
     fill-below (suc n) start i l d h =
         getD-set-other (fill f (suc start) n l) start i (f start) d (λ (q : i ≡ start). omega arith) ∙ fill-below n (suc start) i l d (omega arith)
 
+    -- places after them stay
     pub fill-above : (n start i : ℕ) (l : List A) (d : A) → start + n ≤ i → getD (fill f start n l) i d ≡ getD l i d
     unfolding fill
     fill-above zero start i l d h = refl
     fill-above (suc n) start i l d h =
         getD-set-other (fill f (suc start) n l) start i (f start) d (λ (q : i ≡ start). omega arith) ∙ fill-above n (suc start) i l d (omega arith)
 
+    -- what holds of the values and of an entry before holds of the entry after
     pub fill-keeps : (P : A → Type 0) (n start : ℕ) (l : List A) (d : A) → ((i : ℕ) → start ≤ i → i < start + n → P (f i))
         → (i : ℕ) → P (getD l i d) → P (getD (fill f start n l) i d)
     unfolding fill
@@ -155,6 +155,7 @@ module _ {A : Type 0} where
         set-keeps P (fill f (suc start) n l) start (f start) d (g start (omega arith) (omega arith)) i
         (fill-keeps P n (suc start) l d (λ k p q. g k (omega arith) (omega arith)) i h)
 
+  -- functions that agree at these places fill alike
   pub fill-same : (f g : ℕ → A) (n start : ℕ) (l : List A) → ((i : ℕ) → start ≤ i → i < start + n → f i ≡ g i) → fill f start n l ≡ fill g start n l
   unfolding fill
   fill-same f g zero start l h = refl
@@ -164,15 +165,18 @@ module _ {A : Type 0} where
 -- ---- a list made from another, entry by entry
 
 module _ {A B : Type 0} (f : A → B) where
+  -- the last entry apart
   map-last : (l : List A) (x : A) → map f (l ++ (x ∷ [])) ≡ map f l ++ (f x ∷ [])
   map-last [] x = refl
   map-last (y ∷ l) x = ap (λ (k : List B). f y ∷ k) (map-last l x)
 
+  -- one entry more of a list that is made by f
   pub map-up : (out : List B) (l : List A) (i : ℕ) (d : A) {r : B} → i < length out → i < length l → take i out ≡ map f (take i l) → r ≡ f (getD l i d)
       → take (i + 1) (set out i r) ≡ map f (take (i + 1) l)
   map-up out l i d {r} h g p q = rw (add-one, take-suc-set out i r h, take-suc l i d g, map-last, p, q)
 
 -- ---- bounds
 
+-- a test of every entry bounds every entry, past the end too
 pub entry-le : (m : ℕ) (l : List ℕ) → every (λ x. leb x m) l ≡ true → AllLe m l
 entry-le m l t i = leb-true (getD l i 0) m (every-all (λ x. leb x m) l 0 (le-leb 0 m (omega arith)) t i)

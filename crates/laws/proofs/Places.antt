@@ -5,10 +5,12 @@ use native.Mathlib.Omega.{arith}
 use Rattle.laws.specs.Places.{overPlaces}
 
 module _ {S : Type 0} (f : ℕ → S → S) where
+  -- nothing is done where a loop begins
   pub places-none : (start : ℕ) (s : S) → s ≡ overPlaces f start (start - start) s
   unfolding overPlaces
   places-none start s = let e : start - start ≡ 0 = omega arith in rw e
 
+  -- one place more
   pub places-up : (start i : ℕ) (s : S) {t r : S} → start ≤ i → t ≡ overPlaces f start (i - start) s → r ≡ f i t → r ≡ overPlaces f start (i + 1 - start) s
   unfolding overPlaces
   places-up start i s h p q =

@@ -3,7 +3,8 @@ use Prim.Native.Nat.{ℕ, zero, suc, _+_, _-_, _*_, _%_, _^_, _<_, _≤_, zero-l
 use mathlib.Core.Path.{_≡_, refl, sym, ap, _∙_, subst}
 use mathlib.Core.Logic.{_⊎_, inl, inr}
 use mathlib.Core.Bool.{Bool, true, false, cond, _&&_, _||_, Bool·beq, true≢false, and-eq-true-iff}
-use native.Mathlib.Nat.{le-trans, le-of-eq, le-of-lt, lt-of-lt-of-le, mul-pos, mul-comm, mul-assoc, mul-right-comm, mul-mul-mul-comm, mul-one, zero-mul, add-mul, mul-le-mul, mul-le-mul-right, mul-lt-mul-of-pos-right, le-of-mul-le-mul-right}
+use native.Mathlib.Nat.{le-trans, le-of-eq, le-of-lt, lt-of-lt-of-le, mul-pos, mul-comm, mul-assoc, mul-right-comm, mul-mul-mul-comm, mul-one, zero-mul}
+use native.Mathlib.Nat.{add-mul, mul-le-mul, mul-le-mul-right, mul-lt-mul-of-pos-right, le-of-mul-le-mul-right}
 use native.Mathlib.Omega.{arith}
 use lib.Dec.{T, eqb, ltb, leb, ltb→lt, lit<}
 use lib.Pow.{pow-pos, pow-add}
@@ -22,16 +23,19 @@ Within nan a c = ⊥
 Within (inf s) a c = ⊥
 Within (fin s m e) a c = m * up e * c ≤ a * down e
 
+-- a bounded value is finite
 pub within-finite : (x : Float) (a c : ℕ) → Within x a c → T (finite x)
 within-finite nan a c h = h
 within-finite (inf s) a c h = h
 within-finite (fin s m e) a c h = tt
 
+-- a larger bound
 pub within-more : (x : Float) (a b c : ℕ) → a ≤ b → Within x a c → Within x b c
 within-more nan a b c l h = h
 within-more (inf s) a b c l h = h
 within-more (fin s m e) a b c l h = le-trans h (mul-le-mul-right (down e) l)
 
+-- a minus keeps the size
 pub within-neg : (x : Float) (a c : ℕ) → Within x a c → Within (neg x) a c
 unfolding neg
 within-neg nan a c h = h
@@ -53,21 +57,25 @@ f32-within (fin s (suc m) e) f t =
 
 -- ---- the sign goes through rounding
 
+-- a value of this sign, and no NaN
 abbrev pub Signed : Bool → Float → Type 0
 Signed s nan = ⊥
 Signed s (inf t) = t ≡ s
 Signed s (fin t m e) = t ≡ s
 
+-- a normalized value
 odd-neg : (d q k l : ℕ) → odd d true q k l ≡ neg (odd d false q k l)
 unfolding odd neg
 odd-neg d zero k l = refl
 odd-neg d (suc q) k l = refl
 
+-- it has its sign
 odd-signed : (d q k l : ℕ) → Signed false (odd d false q k l)
 unfolding odd
 odd-signed d zero k l = refl
 odd-signed d (suc q) k l = refl
 
+-- a value within the range of the format
 units-neg : (f : Format) (q k : ℕ) → units f true q k ≡ neg (units f false q k)
 unfolding units
 units-neg f q k = go (ltb (q * 2 ^ k) (2 ^ (low f + suc (emax f))))
@@ -76,6 +84,7 @@ units-neg f q k = go (ltb (q * 2 ^ k) (2 ^ (low f + suc (emax f))))
     go true = odd-neg (suc (prec f)) q k (low f)
     go false = unfold neg in refl
 
+-- it has its sign
 units-signed : (f : Format) (q k : ℕ) → Signed false (units f false q k)
 unfolding units
 units-signed f q k = go (ltb (q * 2 ^ k) (2 ^ (low f + suc (emax f))))
@@ -84,16 +93,19 @@ units-signed f q k = go (ltb (q * 2 ^ k) (2 ^ (low f + suc (emax f))))
     go true = odd-signed (suc (prec f)) q k (low f)
     go false = refl
 
+-- rounding a negative fraction
 pub round-neg : (f : Format) (n d : ℕ) → round f true n d ≡ neg (round f false n d)
 unfolding round
 round-neg f n d = units-neg f _ _
 
+-- a rounded fraction has its sign
 pub round-signed : (f : Format) (n d : ℕ) → Signed false (round f false n d)
 unfolding round
 round-signed f n d = units-signed f _ _
 
 -- ---- what is at most a value without a sign
 
+-- below a value that is exactly a
 pub le-within : (x y : Float) (a : ℕ) → Signed false x → HasValue y false a 1 → T (le x y) → Within x a 1
 unfolding le lt eq
 le-within (inf true) y a s v t = absurd (true≢false s)
@@ -123,6 +135,7 @@ le-within (fin false m e) (fin false n d) a s v t =
 
 -- ---- a whole number that is a value of the format: q * 2^k with a q of 24 digits, below 2^128
 
+-- such a number
 pub record Whole (a : ℕ) : Type 0 where
   pub q : ℕ
   pub k : ℕ
@@ -130,6 +143,7 @@ pub record Whole (a : ℕ) : Type 0 where
   pub few : q < 2 ^ 24
   pub under : a < 2 ^ 128
 
+-- rounding keeps it
 whole-value : (a : ℕ) → Whole a → HasValue (round binary32 false a 1) false a 1
 whole-value a w =
     round-exact binary32 false a 1 (w .q) (w .k + 149) (lit< tt) (w .few)
@@ -139,6 +153,7 @@ whole-value a w =
     e : a * 2 ^ 149 ≡ w .q * 2 ^ (w .k + 149)
     e = ap (λ (z : ℕ). z * 2 ^ 149) (w .is) ∙ mul-assoc (w .q) (2 ^ w .k) (2 ^ 149) ∙ ap (λ (z : ℕ). w .q * z) (sym (pow-add 2 (w .k) 149))
 
+-- rounding keeps a bound that is a value
 pub round-within : (s : Bool) (n d a : ℕ) → 0 < d → n ≤ a * d → Whole a → Within (round binary32 s n d) a 1
 round-within s n d a D h w = go s
   where
@@ -153,9 +168,11 @@ round-within s n d a D h w = go s
 
 -- ---- the operations
 
+-- a bound over a common denominator
 scale-le : (x de a dd : ℕ) → x * 1 ≤ a * de → x * dd ≤ a * (de * dd)
 scale-le x de a dd h = le-trans (mul-le-mul-right dd (le-trans (le-of-eq (sym (mul-one x))) h)) (le-of-eq (mul-assoc a de dd))
 
+-- a sum or a difference of fractions with one denominator
 sum-within : (s t : Bool) (A B C a : ℕ) → 0 < C → A + B ≤ a * C → Whole a → Within (sum binary32 s A t B C) a 1
 unfolding sum
 sum-within s t A B C a c h w = go (Bool·beq s t) (ltb A B)
@@ -165,6 +182,7 @@ sum-within s t A B C a c h w = go (Bool·beq s t) (ltb A B)
     go false true = round-within t (B - A) C a c (omega arith) w
     go false false = round-within (s && ltb B A) (A - B) C a c (omega arith) w
 
+-- the bounds add
 pub add-within : (x y : Float) (a b : ℕ) → Within x a 1 → Within y b 1 → Whole (a + b) → Within (add binary32 x y) (a + b) 1
 unfolding add
 add-within (fin s m e) (fin t n d) a b h k w =
@@ -176,10 +194,12 @@ add-within (fin s m e) (fin t n d) a b h k w =
     omega arith)
     w
 
+-- and for a difference
 pub sub-within : (x y : Float) (a b : ℕ) → Within x a 1 → Within y b 1 → Whole (a + b) → Within (sub binary32 x y) (a + b) 1
 unfolding sub
 sub-within x y a b h k w = add-within x (neg y) a b h (within-neg y b 1 k) w
 
+-- the bounds multiply
 pub mul-within : (x y : Float) (a b c r : ℕ) → 0 < c → Within x a c → Within y b 1 → a * b ≤ r * c → Whole r → Within (mul binary32 x y) r 1
 unfolding mul
 mul-within (fin s m e) (fin t n d) a b c r C h k l w =

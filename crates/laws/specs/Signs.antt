@@ -18,5 +18,5 @@ abbrev pub isNeg : ℤ → Bool
 isNeg z = ltZ z (pos 0)
 
 -- the number of this sign and this size
-abbrev pub valueOf : Bool → ℕ → ℤ
-valueOf neg n = cond neg (negℤ (pos n)) (pos n)
+abbrev pub withSign : Bool → ℕ → ℤ
+withSign neg n = cond neg (negℤ (pos n)) (pos n)

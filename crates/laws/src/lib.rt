@@ -1,15 +1,15 @@
 // The small functions that many crates call: differences and powers, bytes as numbers, the i32 edge, and tests of whole lists.
 ghost use mathlib.Core.Path.{_≡_};
 ghost use mathlib.Core.Bool.{cond};
-ghost use Prim.Native.Nat.{ℕ, _+_, _-_, _^_, _≤_, _<_, min, max};
+ghost use Prim.Native.Nat.{_+_, _-_, _^_, _≤_, _<_, min, max};
 ghost use lib.ListN.{getD};
 ghost use lib.IntN.{natAbs};
 ghost use lib.Ieee.Scale.{finite};
 ghost use Rattle.laws.specs.Lists.{every};
-ghost use Rattle.laws.specs.Signs.{clip, inRange, valueOf};
+ghost use Rattle.laws.specs.Signs.{clip, inRange, withSign};
 
-// a - b, and 0 where b is the larger.
-pub fn less(a: u32, b: u32) -> u32
+// a - b, and 0 where b is the larger: u32's saturating_sub, which the kit has not.
+pub fn saturating_sub(a: u32, b: u32) -> u32
     ensures { λ r. ⌜ r ≡ a - b ⌝ }
 {
     if b < a { a - b } else { 0 }
@@ -65,8 +65,8 @@ pub fn clipped(v: i32) -> u32
     if v < 0 { 0 } else { v as u32 }
 }
 
-// How far v is from 0.
-pub fn size(v: i32) -> u32
+// How far v is from 0: i32's unsigned_abs, which the kit has not.
+pub fn unsigned_abs(v: i32) -> u32
     ensures { λ r. ⌜ (r ≡ natAbs v) × (r ≤ 2147483648) ⌝ }
 {
     if v < 0 {
@@ -79,7 +79,7 @@ pub fn size(v: i32) -> u32
 // The number of a sign and a size.
 pub fn value_of(neg: bool, n: u32) -> i32
     requires { ⌜ n < 2147483648 + cond neg 1 0 ⌝ }
-    ensures { λ r. ⌜ r ≡ valueOf neg n ⌝ }
+    ensures { λ r. ⌜ r ≡ withSign neg n ⌝ }
 {
     if neg {
         if n == 0 {

@@ -1,7 +1,7 @@
 // The lister: requests from standard input, one a line; answers to standard output. Document 01, "The lister".
 mod work;
 
-// Opens, runs and reports, in at most one line. Nothing is recorded: the records have no bytes.
+// Opens, runs, and says in at most one line what failed. The records have no bytes, so nothing is copied.
 fn main() {
     let mut block = [0u8; 65536];
     let mut text = [0u8; 65536];
@@ -18,14 +18,14 @@ fn main() {
         &mut sent,
         &mut reads,
         &mut writes,
-        io_record::stdin(),
-        io_record::stdout(),
+        tool_io::stdin(),
+        tool_io::stdout(),
     );
-    if io_record::read_failed(end.seen) {
-        io_record::complain(b"lister: standard input cannot be read\n");
+    if tool_io::read_failed(end.input) {
+        tool_io::complain(b"lister: standard input cannot be read\n");
         return;
     }
-    if io_record::write_failed(end.sent) {
-        io_record::complain(b"lister: standard output cannot be written\n");
+    if tool_io::write_failed(end.output) {
+        tool_io::complain(b"lister: standard output cannot be written\n");
     }
 }

@@ -1,81 +1,81 @@
 // The lister's run: lines are read, answered and written until the input ends.
-use io_record::Seen;
-use io_record::Sent;
-use line_tool::Pen;
-use line_tool::Reader;
-use line_tool::input;
-use line_tool::output;
+use tool_io::Input;
+use tool_io::Output;
+use tool_lines::Pen;
+use tool_lines::Reader;
+use tool_lines::input;
+use tool_lines::output;
 ghost use mathlib.Core.Path.{_≡_};
 ghost use mathlib.Core.Bool.{true};
 ghost use mathlib.Core.List.{[], _∷_, _++_};
 ghost use Prim.Native.Nat.{_+_, _≤_, _<_};
 ghost use lib.ListN.{length, take};
-ghost use Rattle.listing.specs.Answer.{listingOf};
-ghost use Rattle.io_record.specs.Moved.{Fresh, New};
-ghost use Rattle.line_tool.specs.Tool.{Ran, Runs, Replied};
+ghost use Rattle.lister_answer.specs.Answer.{listingOfLine};
+ghost use Rattle.tool_io.specs.Moved.{NewInput, NewOutput};
+ghost use Rattle.tool_lines.specs.Tool.{Ran, Running, Replied};
 ghost use Rattle.lister.specs.Stream.{lister};
 
-// Where the lister stands: the lines that were read, its input, and its text.
+// Where the lister stands: how many lines were read, its input, and its text.
 pub struct State {
     pub number: u32,
     pub reader: Reader,
     pub pen: Pen,
 }
 
-// The lines that were read, and the text, after a reply.
-pub struct Said {
+// How many lines were read, and the text, after a reply.
+pub struct AfterReply {
     pub number: u32,
     pub pen: Pen,
 }
 
-// Its input and its output at the end.
+// The lister's input and its output at the end.
 pub struct Ends {
-    pub seen: Seen,
-    pub sent: Sent,
+    pub input: Input,
+    pub output: Output,
 }
 
 // The answer to a line from `at` on; the place after it.
 fn answer(line: &[u8], number: u32, out: &mut [u8], at: usize) -> usize
     requires { ⌜ at + 1200 ≤ length (now out) ⌝ }
-    ensures { λ r. ⌜ (take r (now (out .exit)) ≡ take at (now (out .entry)) ++ listingOf number (now (line .entry))) × (r ≤ at + 1200) ⌝ }
+    ensures { λ r. ⌜ (take r (now (out .exit)) ≡ take at (now (out .entry)) ++ listingOfLine number (now (line .entry))) × (r ≤ at + 1200) ⌝ }
 {
-    at + listing::answer::write(line, number, &mut out[at..])
+    at + lister_answer::answer::write(line, number, &mut out[at..])
 }
 
 // The answer to the line that the reader has, if it has one.
-fn reply(kept: &[u8], out: &mut [u8], number: u32, r: Reader, p: Pen) -> Said
-    requires { ⌜ (length (now kept) ≡ 2601) × (r .kept ≤ 2601) × (p .w + 1200 ≤ length (now out)) ⌝ }
+fn reply(kept: &[u8], out: &mut [u8], number: u32, r: Reader, p: Pen) -> AfterReply
+    requires { ⌜ (length (now kept) ≡ 2601) × (r .kept ≤ 2601) × (p .pending + 1200 ≤ length (now out)) ⌝ }
     ensures { λ q. ⌜ Replied lister number r p (now (kept .entry)) (now (out .entry)) 1200 (q .number) (q .pen) (now (out .exit)) ⌝ }
 {
-    let sent = p.sent;
+    let output = p.output;
     let n = r.kept;
     if r.ready {
         if number == 4294967295 {
-            return Said {
+            return AfterReply {
                 number,
                 pen: Pen {
-                    w: p.w,
+                    pending: p.pending,
                     on: false,
-                    sent,
+                    output,
                 },
             };
         }
-        let w = answer(&kept[..n], number + 1, out, p.w);
-        return Said {
+        let pending = answer(&kept[..n], number + 1, out, p.pending);
+        return AfterReply {
             number: number + 1,
             pen: Pen {
-                w,
+                pending,
                 on: !r.over,
-                sent,
+                output,
             },
         };
     }
-    Said {
+    AfterReply {
         number,
         pen: Pen {
-            w: p.w,
+            pending: p.pending,
             on: !r.over,
-            sent,
+            output,
         },
     }
 }
@@ -91,8 +91,10 @@ fn turn(
     writes: &mut [u64],
     s: State,
 ) -> State
-    requires { ⌜ Runs lister 0 (s .number) (s .reader) (s .pen) 64336 1200 (now block) (now kept) (now out) (now seen) (now sent) (now reads) (now writes) × (s .pen .on ≡ true) ⌝ }
-    ensures { λ r. ⌜ Runs lister 0 (r .number) (r .reader) (r .pen) 64336 1200 (now (block .exit)) (now (kept .exit)) (now (out .exit)) (now (seen .exit)) (now (sent .exit)) (now (reads .exit)) (now (writes .exit)) ⌝ }
+    requires { ⌜ Running lister 0 (s .number) (s .reader) (s .pen) 64336 1200 (now block) (now kept) (now out) (now seen) (now sent) (now reads) (now writes) ×
+        (s .pen .on ≡ true) ⌝ }
+    ensures { λ r. ⌜ Running lister 0 (r .number) (r .reader) (r .pen) 64336 1200 (now (block .exit)) (now (kept .exit)) (now (out .exit)) (now (seen .exit))
+        (now (sent .exit)) (now (reads .exit)) (now (writes .exit)) ⌝ }
 {
     let old = s.reader;
     let text = s.pen;
@@ -116,12 +118,12 @@ pub fn run(
     sent: &mut [u8],
     reads: &mut [u64],
     writes: &mut [u64],
-    from: Seen,
-    to: Sent,
+    from: Input,
+    to: Output,
 ) -> Ends
     requires { ⌜ (0 < length (now block)) × (length (now kept) ≡ 2601) × (65536 ≤ length (now out)) ⌝ }
-    requires { ⌜ Fresh from × New to × (now reads ≡ from .calls ∷ []) × (now writes ≡ to .calls ∷ []) ⌝ }
-    ensures { λ r. ⌜ Ran lister 0 (r .seen) (r .sent) (now (seen .exit)) (now (sent .exit)) ⌝ }
+    requires { ⌜ NewInput from × NewOutput to × (now reads ≡ from .calls ∷ []) × (now writes ≡ to .calls ∷ []) ⌝ }
+    ensures { λ r. ⌜ Ran lister 0 (r .input) (r .output) (now (seen .exit)) (now (sent .exit)) ⌝ }
 {
     let start = input::begin(from);
     let text = output::new_pen(to);
@@ -130,24 +132,21 @@ pub fn run(
         reader: start,
         pen: text,
     };
-    let mut turns = io_record::all_turns();
-    while s.pen.on & io_record::any_turn(turns) {
+    let mut turns = tool_io::all_turns();
+    while s.pen.on & tool_io::any_turn(turns) {
         s = turn(block, kept, out, seen, sent, reads, writes, s);
-        turns = io_record::one_less(turns);
+        turns = tool_io::after_turn(turns);
     }
     let last = s.pen;
     let read = s.reader;
-    let at_end = read.seen;
-    let written = last.sent;
+    let input = read.input;
+    let output = last.output;
     if last.on {
-        let given = io_record::given_up(turns, written);
+        let failed = tool_io::give_up(turns, output);
         return Ends {
-            seen: at_end,
-            sent: given,
+            input,
+            output: failed,
         };
     }
-    Ends {
-        seen: at_end,
-        sent: written,
-    }
+    Ends { input, output }
 }

@@ -8,5 +8,5 @@ pub mod FractionRule
 pub mod Laplace
 pub mod LogWidthRule
 pub mod PredictionRule
-pub mod SmallEnergyRule
+pub mod Rules
 pub mod VectorRule

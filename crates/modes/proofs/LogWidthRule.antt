@@ -2,7 +2,6 @@
 use Prim.Native.Nat.{ℕ, _≤_, _<_}
 use mathlib.Core.Path.{_≡_, refl}
 use mathlib.Core.Bool.{true}
-use lib.ListN.{length}
 use Rattle.laws.specs.Lists.{every}
 use Rattle.laws.proofs.Lists.{entry-le}
 use Rattle.laws.proofs.Tables.{below-at}
@@ -10,15 +9,12 @@ use Rattle.modes.specs.Edges.{edges, edge, width}
 use Rattle.modes.specs.Eighths.{isLog}
 use Rattle.modes.specs.LogWidths.{logWidths, logWidth}
 
-pub log-widths-length : length logWidths ≡ 21
-unfolding logWidths
-log-widths-length = refl
-
 -- entry j is log2 of band j's width in eighths, rounded up
 pub log-width-is : (j : ℕ) → j < 21 → isLog (width j) (logWidth j) ≡ true
 unfolding logWidth logWidths width edge edges isLog
 log-width-is = below-at (λ j. isLog (width j) (logWidth j)) 21 refl
 
+-- the widest band has the greatest
 pub log-width-most : (j : ℕ) → logWidth j ≤ 36
 unfolding logWidth logWidths every
 log-width-most = entry-le 36 logWidths refl

@@ -1,5 +1,9 @@
--- The pulse cache, RFC 6716, section 4.3.4.1: rows one after the other. A row starts with its length; entry i after it is one less than
--- what the i-th number of pulses costs, in eighths of a bit.
+-- The pulse cache, RFC 6716, section 4.3.4.1 (cache_bits50): rows one after the other. A row starts with its length; entry i after it is one
+-- less than what the i-th number of pulses costs, in eighths of a bit.
+-- The cache stands in three forms. Definitions cite this list, with cacheIndex (CacheIndex.antt) for where rows start. src/cache_bits.rt has it as a
+-- const, to lend to a search that reads several entries of a row: the contract of `table` says that it is this list. rate_cache packs starts, lengths
+-- and entries into numbers (rate_cache/specs/Packed.antt), for a lookup that reads one of each: `mark-in` and `entry-in` (rate_cache/proofs/Packings.antt)
+-- say that they are these lists'.
 use Prim.Native.Nat.{ℕ, _+_, _≤_, _<_}
 use mathlib.Core.List.{List, [], _∷_}
 use lib.ListN.{getD}
@@ -7,11 +11,16 @@ use lib.ListN.{getD}
 -- one row to a line
 unfoldable pub cacheBits : List ℕ
 cacheBits =
-    40 ∷ 7 ∷ 7 ∷ 7 ∷ 7 ∷ 7 ∷ 7 ∷ 7 ∷ 7 ∷ 7 ∷ 7 ∷ 7 ∷ 7 ∷ 7 ∷ 7 ∷ 7 ∷ 7 ∷ 7 ∷ 7 ∷ 7 ∷ 7 ∷ 7 ∷ 7 ∷ 7 ∷ 7 ∷ 7 ∷ 7 ∷ 7 ∷ 7 ∷ 7 ∷ 7 ∷ 7 ∷ 7 ∷ 7 ∷ 7 ∷ 7 ∷ 7 ∷ 7 ∷ 7 ∷ 7 ∷ 7 ∷
-    40 ∷ 15 ∷ 23 ∷ 28 ∷ 31 ∷ 34 ∷ 36 ∷ 38 ∷ 39 ∷ 41 ∷ 42 ∷ 43 ∷ 44 ∷ 45 ∷ 46 ∷ 47 ∷ 47 ∷ 49 ∷ 50 ∷ 51 ∷ 52 ∷ 53 ∷ 54 ∷ 55 ∷ 55 ∷ 57 ∷ 58 ∷ 59 ∷ 60 ∷ 61 ∷ 62 ∷ 63 ∷ 63 ∷ 65 ∷ 66 ∷ 67 ∷ 68 ∷ 69 ∷ 70 ∷ 71 ∷ 71 ∷
-    40 ∷ 20 ∷ 33 ∷ 41 ∷ 48 ∷ 53 ∷ 57 ∷ 61 ∷ 64 ∷ 66 ∷ 69 ∷ 71 ∷ 73 ∷ 75 ∷ 76 ∷ 78 ∷ 80 ∷ 82 ∷ 85 ∷ 87 ∷ 89 ∷ 91 ∷ 92 ∷ 94 ∷ 96 ∷ 98 ∷ 101 ∷ 103 ∷ 105 ∷ 107 ∷ 108 ∷ 110 ∷ 112 ∷ 114 ∷ 117 ∷ 119 ∷ 121 ∷ 123 ∷ 124 ∷ 126 ∷ 128 ∷
-    40 ∷ 23 ∷ 39 ∷ 51 ∷ 60 ∷ 67 ∷ 73 ∷ 79 ∷ 83 ∷ 87 ∷ 91 ∷ 94 ∷ 97 ∷ 100 ∷ 102 ∷ 105 ∷ 107 ∷ 111 ∷ 115 ∷ 118 ∷ 121 ∷ 124 ∷ 126 ∷ 129 ∷ 131 ∷ 135 ∷ 139 ∷ 142 ∷ 145 ∷ 148 ∷ 150 ∷ 153 ∷ 155 ∷ 159 ∷ 163 ∷ 166 ∷ 169 ∷ 172 ∷ 174 ∷ 177 ∷ 179 ∷
-    35 ∷ 28 ∷ 49 ∷ 65 ∷ 78 ∷ 89 ∷ 99 ∷ 107 ∷ 114 ∷ 120 ∷ 126 ∷ 132 ∷ 136 ∷ 141 ∷ 145 ∷ 149 ∷ 153 ∷ 159 ∷ 165 ∷ 171 ∷ 176 ∷ 180 ∷ 185 ∷ 189 ∷ 192 ∷ 199 ∷ 205 ∷ 211 ∷ 216 ∷ 220 ∷ 225 ∷ 229 ∷ 232 ∷ 239 ∷ 245 ∷ 251 ∷
+    40 ∷ 7 ∷ 7 ∷ 7 ∷ 7 ∷ 7 ∷ 7 ∷ 7 ∷ 7 ∷ 7 ∷ 7 ∷ 7 ∷ 7 ∷ 7 ∷ 7 ∷ 7 ∷ 7 ∷ 7 ∷ 7 ∷ 7 ∷ 7 ∷ 7 ∷ 7 ∷ 7 ∷ 7 ∷ 7 ∷ 7 ∷ 7 ∷ 7 ∷ 7 ∷ 7 ∷ 7 ∷ 7 ∷ 7 ∷ 7 ∷ 7 ∷ 7 ∷ 7 ∷ 7 ∷
+    7 ∷ 7 ∷
+    40 ∷ 15 ∷ 23 ∷ 28 ∷ 31 ∷ 34 ∷ 36 ∷ 38 ∷ 39 ∷ 41 ∷ 42 ∷ 43 ∷ 44 ∷ 45 ∷ 46 ∷ 47 ∷ 47 ∷ 49 ∷ 50 ∷ 51 ∷ 52 ∷ 53 ∷ 54 ∷ 55 ∷ 55 ∷ 57 ∷ 58 ∷ 59 ∷ 60 ∷ 61 ∷ 62 ∷
+    63 ∷ 63 ∷ 65 ∷ 66 ∷ 67 ∷ 68 ∷ 69 ∷ 70 ∷ 71 ∷ 71 ∷
+    40 ∷ 20 ∷ 33 ∷ 41 ∷ 48 ∷ 53 ∷ 57 ∷ 61 ∷ 64 ∷ 66 ∷ 69 ∷ 71 ∷ 73 ∷ 75 ∷ 76 ∷ 78 ∷ 80 ∷ 82 ∷ 85 ∷ 87 ∷ 89 ∷ 91 ∷ 92 ∷ 94 ∷ 96 ∷ 98 ∷ 101 ∷ 103 ∷ 105 ∷ 107 ∷
+    108 ∷ 110 ∷ 112 ∷ 114 ∷ 117 ∷ 119 ∷ 121 ∷ 123 ∷ 124 ∷ 126 ∷ 128 ∷
+    40 ∷ 23 ∷ 39 ∷ 51 ∷ 60 ∷ 67 ∷ 73 ∷ 79 ∷ 83 ∷ 87 ∷ 91 ∷ 94 ∷ 97 ∷ 100 ∷ 102 ∷ 105 ∷ 107 ∷ 111 ∷ 115 ∷ 118 ∷ 121 ∷ 124 ∷ 126 ∷ 129 ∷ 131 ∷ 135 ∷ 139 ∷ 142 ∷
+    145 ∷ 148 ∷ 150 ∷ 153 ∷ 155 ∷ 159 ∷ 163 ∷ 166 ∷ 169 ∷ 172 ∷ 174 ∷ 177 ∷ 179 ∷
+    35 ∷ 28 ∷ 49 ∷ 65 ∷ 78 ∷ 89 ∷ 99 ∷ 107 ∷ 114 ∷ 120 ∷ 126 ∷ 132 ∷ 136 ∷ 141 ∷ 145 ∷ 149 ∷ 153 ∷ 159 ∷ 165 ∷ 171 ∷ 176 ∷ 180 ∷ 185 ∷ 189 ∷ 192 ∷ 199 ∷ 205 ∷
+    211 ∷ 216 ∷ 220 ∷ 225 ∷ 229 ∷ 232 ∷ 239 ∷ 245 ∷ 251 ∷
     21 ∷ 33 ∷ 58 ∷ 79 ∷ 97 ∷ 112 ∷ 125 ∷ 137 ∷ 148 ∷ 157 ∷ 166 ∷ 174 ∷ 182 ∷ 189 ∷ 195 ∷ 201 ∷ 207 ∷ 217 ∷ 227 ∷ 235 ∷ 243 ∷ 251 ∷
     17 ∷ 35 ∷ 63 ∷ 86 ∷ 106 ∷ 123 ∷ 139 ∷ 152 ∷ 165 ∷ 177 ∷ 187 ∷ 197 ∷ 206 ∷ 214 ∷ 222 ∷ 230 ∷ 237 ∷ 250 ∷
     25 ∷ 31 ∷ 55 ∷ 75 ∷ 91 ∷ 105 ∷ 117 ∷ 128 ∷ 138 ∷ 146 ∷ 154 ∷ 161 ∷ 168 ∷ 174 ∷ 180 ∷ 185 ∷ 190 ∷ 200 ∷ 208 ∷ 215 ∷ 222 ∷ 229 ∷ 235 ∷ 240 ∷ 245 ∷ 255 ∷
@@ -40,7 +49,7 @@ unfoldable pub rowEntry : ℕ → ℕ → ℕ
 rowEntry start i = getD cacheBits (start + i) 0
 
 -- a row starts here: it lies inside the table, and its entries never fall
-pub record Row (start : ℕ) : Type 0 where
+pub record CacheRow (start : ℕ) : Type 0 where
   pub length-least : 4 ≤ rowLength start
   pub length-most : rowLength start ≤ 40
   pub inside : start + rowLength start < 392

@@ -1,5 +1,5 @@
--- Where a band's row of the pulse cache starts, RFC 6716, section 4.3.4.1: 5 rows of 21 bands, for LM -1, 0, 1, 2 and 3. Each entry is one
--- more than the start; 0 says that there is no row (the reference source has -1).
+-- Where a band's row of the pulse cache starts, RFC 6716, section 4.3.4.1 (cache_index50): 5 rows of 21 bands, for LM -1, 0, 1, 2 and 3. Each
+-- entry is one more than the start; 0 says that there is no row (the reference source has -1). CacheBits.antt says which other form code has.
 use Prim.Native.Nat.{ℕ, _+_, _-_, _*_}
 use mathlib.Core.List.{List, [], _∷_}
 use lib.ListN.{getD}
@@ -14,9 +14,9 @@ cacheIndex =
     241 ∷ 241 ∷ 241 ∷ 241 ∷ 241 ∷ 241 ∷ 241 ∷ 241 ∷ 306 ∷ 306 ∷ 306 ∷ 306 ∷ 344 ∷ 344 ∷ 344 ∷ 352 ∷ 352 ∷ 371 ∷ 377 ∷ 383 ∷ 388 ∷ []
 
 -- the entry of a band, where lm is LM + 1
-unfoldable pub place : ℕ → ℕ → ℕ
-place lm band = getD cacheIndex (21 * lm + band) 0
+unfoldable pub indexEntry : ℕ → ℕ → ℕ
+indexEntry lm band = getD cacheIndex (21 * lm + band) 0
 
 -- where the row starts, if there is one
 abbrev pub rowStart : ℕ → ℕ → ℕ
-rowStart lm band = place lm band - 1
+rowStart lm band = indexEntry lm band - 1

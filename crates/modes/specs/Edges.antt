@@ -1,4 +1,4 @@
--- The bands of the 48 kHz mode, RFC 6716, section 4.3: band j has the coefficients from edge j up to edge (j + 1), counted at the shortest
+-- The bands of the 48 kHz mode, RFC 6716, section 4.3 (eband5ms): band j has the coefficients from edge j up to edge (j + 1), counted at the shortest
 -- frame size, LM 0. Each step of LM doubles them.
 use Prim.Native.Nat.{ℕ, suc, _-_}
 use mathlib.Core.List.{List, [], _∷_}

@@ -1,4 +1,4 @@
--- The tables of CELT's 48 kHz mode as RFC 6716 has them, each with how it is read, and the two rules that say what some of their figures are.
+-- The tables of CELT's 48 kHz mode as RFC 6716 has them, each with how it is read, and what they keep (Rules).
 pub mod CacheBits
 pub mod CacheIndex
 pub mod Caps
@@ -9,5 +9,6 @@ pub mod Fractions
 pub mod Laplace
 pub mod LogWidths
 pub mod Prediction
+pub mod Rules
 pub mod SmallEnergy
 pub mod Vectors

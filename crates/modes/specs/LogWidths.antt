@@ -1,4 +1,4 @@
--- The logarithms of the bands' widths (logN of the mode, RFC 6716, section 4.3.3): entry j is log2 of band j's width in eighths, rounded up.
+-- The logarithms of the bands' widths (logN400; RFC 6716, section 4.3.3): entry j is log2 of band j's width in eighths, rounded up.
 use Prim.Native.Nat.{ℕ}
 use mathlib.Core.List.{List, [], _∷_}
 use lib.ListN.{getD}

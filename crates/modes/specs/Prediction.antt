@@ -7,24 +7,24 @@ use lib.ListN.{getD}
 use lib.Ieee.{Float, nan, binary32, round}
 
 -- m / 32768, rounded once
-abbrev pub over : ℕ → Float
-over m = round binary32 false m 32768
+abbrev pub over32768 : ℕ → Float
+over32768 m = round binary32 false m 32768
 
--- alpha
+-- alpha (pred_coef)
 unfoldable pub predCoefs : List Float
-predCoefs = over 29440 ∷ over 26112 ∷ over 21248 ∷ over 16384 ∷ []
+predCoefs = over32768 29440 ∷ over32768 26112 ∷ over32768 21248 ∷ over32768 16384 ∷ []
 
--- beta
+-- beta (beta_coef)
 unfoldable pub betaCoefs : List Float
-betaCoefs = over 30147 ∷ over 22282 ∷ over 12124 ∷ over 6554 ∷ []
+betaCoefs = over32768 30147 ∷ over32768 22282 ∷ over32768 12124 ∷ over32768 6554 ∷ []
 
--- beta of an intra frame
+-- beta of an intra frame (beta_intra)
 unfoldable pub betaIntra : Float
-betaIntra = over 4915
+betaIntra = over32768 4915
 
 -- the share of the last frame's energy
 unfoldable pub coefOf : Bool → ℕ → Float
-coefOf true lm = over 0
+coefOf true lm = over32768 0
 coefOf false lm = getD predCoefs lm nan
 
 -- the share of a band's step that the next band does not inherit

@@ -1,4 +1,5 @@
--- The three-way table of the coarse energies, RFC 6716, section 4.3.2.1, for when too few bits are left for a Laplace value: read with ftb 2.
+-- The three-way table of the coarse energies, RFC 6716, section 4.3.2.1 (small_energy_icdf), for when too few bits are left for a Laplace value:
+-- read with ftb 2.
 use Prim.Native.Nat.{ℕ}
 use mathlib.Core.List.{List, [], _∷_}
 

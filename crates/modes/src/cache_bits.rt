@@ -4,6 +4,7 @@ ghost use mathlib.Core.Path.{_≡_};
 ghost use Prim.Native.Nat.{_+_, _≤_, _<_};
 ghost use Rattle.modes.specs.CacheBits.{cacheBits, rowLength, rowEntry};
 
+// The list `cacheBits`.
 const CACHE_BITS: [u8; 392] = [
     40,
     7,

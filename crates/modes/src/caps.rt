@@ -4,6 +4,7 @@ ghost use mathlib.Core.Path.{_≡_};
 ghost use Prim.Native.Nat.{_≤_, _<_};
 ghost use Rattle.modes.specs.Caps.{capEntry};
 
+// The list `caps`.
 const CAPS: [u8; 168] = [
     224,
     224,

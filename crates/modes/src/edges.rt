@@ -4,6 +4,7 @@ ghost use mathlib.Core.Path.{_≡_};
 ghost use Prim.Native.Nat.{_≤_, _<_};
 ghost use Rattle.modes.specs.Edges.{edge, width};
 
+// The list `edges`.
 const EDGES: [u8; 22] = [
     0,
     1,

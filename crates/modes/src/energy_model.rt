@@ -2,8 +2,9 @@
 use laws::wide;
 ghost use mathlib.Core.Path.{_≡_};
 ghost use Prim.Native.Nat.{_≤_, _<_};
-ghost use Rattle.modes.specs.EnergyModel.{energyModel, zeroAt, decayAt, pairAt};
+ghost use Rattle.modes.specs.EnergyModel.{energyModel, zeroAt, decayAt, pairIndex};
 
+// The list `energyModel`.
 const ENERGY_MODEL: [u8; 336] = [
     72,
     127,
@@ -353,7 +354,7 @@ pub fn table() -> [u8; 336]
 // Which pair a band has.
 pub fn pair_of(lm: usize, intra: bool, band: usize) -> usize
     requires { ⌜ (lm < 4) × (band < 21) ⌝ }
-    ensures { λ r. ⌜ (r ≡ pairAt lm intra band) × (r < 168) ⌝ }
+    ensures { λ r. ⌜ (r ≡ pairIndex lm intra band) × (r < 168) ⌝ }
 {
     if intra {
         42 * lm + 21 + band
@@ -376,22 +377,4 @@ pub fn decay_in(t: &[u8], k: usize) -> u32
     ensures { λ r. ⌜ (r ≡ decayAt k) × (r ≤ 16384) ⌝ }
 {
     wide(t[2 * k + 1]) * 64
-}
-
-// The places of zero in pair k.
-pub fn zero_of(k: usize) -> u32
-    requires { ⌜ k < 168 ⌝ }
-    ensures { λ r. ⌜ (r ≡ zeroAt k) × (1 ≤ r) × (r ≤ 32736) ⌝ }
-{
-    let t = table();
-    zero_in(&t, k)
-}
-
-// The decay of pair k.
-pub fn decay_of(k: usize) -> u32
-    requires { ⌜ k < 168 ⌝ }
-    ensures { λ r. ⌜ (r ≡ decayAt k) × (r ≤ 16384) ⌝ }
-{
-    let t = table();
-    decay_in(&t, k)
 }

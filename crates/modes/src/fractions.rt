@@ -4,6 +4,7 @@ ghost use mathlib.Core.Path.{_≡_};
 ghost use Prim.Native.Nat.{_≤_, _<_};
 ghost use Rattle.modes.specs.Fractions.{fraction};
 
+// The list `fractions`.
 const FRACTIONS: [u8; 24] = [
     0,
     8,

@@ -4,6 +4,7 @@ ghost use mathlib.Core.Path.{_≡_};
 ghost use Prim.Native.Nat.{_≤_, _<_};
 ghost use Rattle.modes.specs.LogWidths.{logWidth};
 
+// The list `logWidths`.
 const LOG_WIDTHS: [u8; 21] = [
     0,
     0,

@@ -3,8 +3,10 @@ ghost use mathlib.Core.Path.{_≡_};
 ghost use Prim.Native.Nat.{_<_};
 ghost use Rattle.modes.specs.Prediction.{coefOf, betaOf};
 
+// The list `predCoefs`.
 const PRED_COEF: [f32; 4] = [0.8984375, 0.796875, 0.6484375, 0.5];
 
+// The list `betaCoefs`.
 const BETA_COEF: [f32; 4] = [
     0.920013427734375,
     0.67999267578125,
@@ -12,6 +14,7 @@ const BETA_COEF: [f32; 4] = [
     0.20001220703125,
 ];
 
+// `betaIntra`.
 const BETA_INTRA: f32 = 0.149993896484375;
 
 // The share of the last frame's energy.

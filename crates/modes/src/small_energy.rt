@@ -2,6 +2,7 @@
 ghost use mathlib.Core.Path.{_≡_};
 ghost use Rattle.modes.specs.SmallEnergy.{smallEnergy};
 
+// The list `smallEnergy`.
 const SMALL_ENERGY: [u8; 3] = [2, 1, 0];
 
 // The whole table, to lend to a table read or write.

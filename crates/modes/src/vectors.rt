@@ -2,8 +2,9 @@
 use laws::wide;
 ghost use mathlib.Core.Path.{_≡_};
 ghost use Prim.Native.Nat.{_≤_, _<_};
-ghost use Rattle.modes.specs.Vectors.{vectors, step};
+ghost use Rattle.modes.specs.Vectors.{vectors, vectorEntry};
 
+// The list `vectors`.
 const VECTORS: [u8; 231] = [
     0,
     0,
@@ -248,16 +249,7 @@ pub fn table() -> [u8; 231]
 // What vector v gives band j, from the table lent.
 pub fn step_in(t: &[u8], v: usize, j: usize) -> u32
     requires { ⌜ (now t ≡ vectors) × (v < 11) × (j < 21) ⌝ }
-    ensures { λ r. ⌜ (r ≡ step v j) × (r ≤ 200) ⌝ }
+    ensures { λ r. ⌜ (r ≡ vectorEntry v j) × (r ≤ 200) ⌝ }
 {
     wide(t[21 * v + j])
-}
-
-// What vector v gives band j.
-pub fn step_of(v: usize, j: usize) -> u32
-    requires { ⌜ (v < 11) × (j < 21) ⌝ }
-    ensures { λ r. ⌜ (r ≡ step v j) × (r ≤ 200) ⌝ }
-{
-    let t = table();
-    step_in(&t, v, j)
 }

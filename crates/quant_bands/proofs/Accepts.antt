@@ -14,13 +14,13 @@ use Rattle.laws.specs.Signs.{clip}
 use Rattle.laws.proofs.Signs.{range-count}
 use Rattle.entcode.specs.Said.{answer, lentAfter}
 use Rattle.entdec.specs.declared.Reader.{Reader}
-use Rattle.quant_bands.specs.declared.EnergyRead.the-variants.{Got, Refused}
-use Rattle.quant_bands.specs.Asked.{BandsIn}
-use Rattle.quant_bands.specs.Coarse.{Decoded, decoded, Going, going, begun, coarse, coarseBand}
+use Rattle.quant_bands.specs.declared.EnergyRead.the-variants.{Done, Refused}
+use Rattle.quant_bands.specs.Domain.{BandsIn}
+use Rattle.quant_bands.specs.Coarse.{EnergiesAfter, energiesAfter, CoarseState, coarseState, coarseStart, coarse, coarseBand}
 use Rattle.quant_bands.specs.Finalise.{Spending, spending, finalise}
-use Rattle.quant_bands.specs.Question.{bandsOk, coarseOk, entryOf, isIntra, refusalCoarse, refusalFinalise}
+use Rattle.quant_bands.specs.Question.{bandsOk, coarseOk, countAt, isIntra, refusalCoarse, refusalFinalise}
 use Rattle.quant_bands.specs.Answer.{after, answerR, coarseReading, finaliseReading}
-use Rattle.quant_bands.proofs.Ranged.{pass}
+use Rattle.quant_bands.proofs.Ranged.{passOf}
 
 -- ---- numbers
 
@@ -30,6 +30,7 @@ ordered (pos a) (pos b) m p q r = (ltb-true a b q, leb-true b m r)
 ordered (pos a) (negsuc b) m p q r = absurd (false≢true q)
 ordered (negsuc a) z m p q r = absurd (false≢true p)
 
+-- what the test of the bands tells, as counts
 pub bands-in : (c start end : ℤ) → bandsOk c start end ≡ true → BandsIn (clip c) (clip start) (clip end)
 unfolding bandsOk
 bands-in c start end e =
@@ -40,6 +41,7 @@ bands-in c start end e =
     let o = ordered start end 21 (z .1) (y .1) (x .1) in
     record { c-low = channels .low; c-le = channels .high; start-lt = o .0; end-le = o .1 }
 
+-- with LM
 pub coarse-in : (c lm start end intra : ℤ) → coarseOk c lm start end intra ≡ true → BandsIn (clip c) (clip start) (clip end) × (clip lm < 4)
 unfolding coarseOk
 coarse-in c lm start end intra e =
@@ -56,33 +58,42 @@ sized n f p e =
 
 -- ---- the whole work
 
+-- the bands done one after the other are the coarse decode
 pub coarse-is : (c lm : ℕ) (intra : Bool) (start end : ℕ) (s : List ℕ) (d : Reader) (es : List Float) {fs : List Float} {a b : Float} {r : Reader}
-    → going fs a b r ≡ overPlaces (coarseBand c lm intra s) start (end - start) (begun d es) → decoded fs r ≡ coarse c lm intra start end s d es
+    → coarseState fs a b r ≡ overPlaces (coarseBand c lm intra s) start (end - start) (coarseStart d es)
+    → energiesAfter fs r ≡ coarse c lm intra start end s d es
 unfolding coarse
-coarse-is c lm intra start end s d es e = ap (λ (g : Going). decoded (g .energies) (g .next)) e
+coarse-is c lm intra start end s d es e = ap (λ (g : CoarseState). energiesAfter (g .energies) (g .next)) e
 
+-- and the two passes are the last bits
 pub finalise-is : (c : ℕ) (fine priority : ℕ → ℕ) (start end left : ℕ) (s : List ℕ) (d : Reader) (es : List Float) {y : Spending}
-    → y ≡ overPlaces (pass c fine priority start end s) 0 2 (spending es left d) → decoded (y .energies) (y .next) ≡ finalise c fine priority start end left s d es
+    → y ≡ overPlaces (passOf c fine priority start end s) 0 2 (spending es left d)
+    → energiesAfter (y .energies) (y .next) ≡ finalise c fine priority start end left s d es
 unfolding finalise overPlaces
-finalise-is c fine priority start end left s d es e = ap (λ (g : Spending). decoded (g .energies) (g .next)) e
+finalise-is c fine priority start end left s d es e = ap (λ (g : Spending). energiesAfter (g .energies) (g .next)) e
 
 -- ---- answers
 
-said-got : (n : ℕ) (y : Decoded) (es : List Float) {fs : List Float} {d : Reader} → n ≡ 0 → decoded fs d ≡ y → after (Got d) fs ≡ answerR n y es
+-- number 0: the reader and the energies of the work
+said-got : (n : ℕ) (y : EnergiesAfter) (es : List Float) {fs : List Float} {d : Reader} → n ≡ 0 → energiesAfter fs d ≡ y → after (Done d) fs ≡ answerR n y es
 unfolding answer lentAfter
 said-got n y es z e = rw (z, ← e)
 
-said-refused : (n : ℕ) (y : Decoded) (es : List Float) → (n ≡ 0 → ⊥) → after (Refused n) es ≡ answerR n y es
+-- any other: the refusal, and the energies as they were
+said-refused : (n : ℕ) (y : EnergiesAfter) (es : List Float) → (n ≡ 0 → ⊥) → after (Refused n) es ≡ answerR n y es
 unfolding answer lentAfter
 said-refused zero y es h = absurd (h refl)
 said-refused (suc n) y es h = refl
 
 -- of a coarse decode
 module _ (c lm start end intra : ℤ) (s : List ℕ) (d : Reader) (es : List Float) {n : ℕ} (g : n ≡ refusalCoarse c lm start end intra s d es) where
-  pub coarse-got : n ≡ 0 → {fs : List Float} {r : Reader} → decoded fs r ≡ coarse (clip c) (clip lm) (isIntra intra) (clip start) (clip end) s d es
-      → after (Got r) fs ≡ coarseReading c lm start end intra s d es
-  coarse-got z e = said-got (refusalCoarse c lm start end intra s d es) (coarse (clip c) (clip lm) (isIntra intra) (clip start) (clip end) s d es) es (sym g ∙ z) e
+  -- it is accepted
+  pub coarse-got : n ≡ 0 → {fs : List Float} {r : Reader} → energiesAfter fs r ≡ coarse (clip c) (clip lm) (isIntra intra) (clip start) (clip end) s d es
+      → after (Done r) fs ≡ coarseReading c lm start end intra s d es
+  coarse-got z e = said-got (refusalCoarse c lm start end intra s d es) (coarse (clip c) (clip lm) (isIntra intra) (clip start) (clip end) s d es) es
+      (sym g ∙ z) e
 
+  -- it is refused
   pub coarse-refused : (n ≡ 0 → ⊥) → after (Refused n) es ≡ coarseReading c lm start end intra s d es
   coarse-refused h =
       rw g
@@ -91,17 +102,19 @@ module _ (c lm start end intra : ℤ) (s : List ℕ) (d : Reader) (es : List Flo
 -- of the last bits
 module _ (c start end : ℤ) (fine priorities : List ℤ) (left : ℤ) (s : List ℕ) (d : Reader) (es : List Float) {n : ℕ}
     (g : n ≡ refusalFinalise c start end fine priorities s d es) where
+  -- they are accepted
   pub finalise-got : n ≡ 0 → {fs : List Float} {r : Reader}
-      → decoded fs r ≡ finalise (clip c) (entryOf fine) (entryOf priorities) (clip start) (clip end) (clip left) s d es
-      → after (Got r) fs ≡ finaliseReading c start end fine priorities left s d es
+      → energiesAfter fs r ≡ finalise (clip c) (countAt fine) (countAt priorities) (clip start) (clip end) (clip left) s d es
+      → after (Done r) fs ≡ finaliseReading c start end fine priorities left s d es
   finalise-got z e =
       said-got (refusalFinalise c start end fine priorities s d es)
-      (finalise (clip c) (entryOf fine) (entryOf priorities) (clip start) (clip end) (clip left) s d es)
+      (finalise (clip c) (countAt fine) (countAt priorities) (clip start) (clip end) (clip left) s d es)
       es (sym g ∙ z) e
 
+  -- they are refused
   pub finalise-refused : (n ≡ 0 → ⊥) → after (Refused n) es ≡ finaliseReading c start end fine priorities left s d es
   finalise-refused h =
       rw g
       (said-refused (refusalFinalise c start end fine priorities s d es)
-      (finalise (clip c) (entryOf fine) (entryOf priorities) (clip start) (clip end) (clip left) s d es)
+      (finalise (clip c) (countAt fine) (countAt priorities) (clip start) (clip end) (clip left) s d es)
       es (λ z. h (g ∙ z)))

@@ -16,38 +16,36 @@ use Rattle.laplace.specs.declared.LapSym.{LapSym}
 use Rattle.entdec.proofs.Chain.{ready-less}
 use Rattle.quant_bands.specs.declared.coarse_band.Kind.{Kind}
 use Rattle.quant_bands.specs.Steps.{readStep}
-use Rattle.quant_bands.specs.Prediction.{predicted, carried}
-use Rattle.quant_bands.specs.Coarse.{Going, going, kindOf, Stepped, stepped, energyAt, firstAt, secondAt, coarseBand}
+use Rattle.quant_bands.specs.Prediction.{predicted, handedOn}
+use Rattle.quant_bands.specs.Coarse.{CoarseState, coarseState, kindOf, coarseStep, energyAt, firstAt, secondAt, coarseBand}
 use Rattle.quant_bands.proofs.Stepping.{step-ready}
 use Rattle.quant_bands.proofs.BandKind.{kind-legal}
 
 -- ---- one energy
 
+-- the code's step, energy and what is handed on are the definition's
 pub energy-is : (m : Kind) (s : List ℕ) (k : ℕ) (prev : Float) (d : Reader) (es : List Float) {y : LapSym} {x h : Float} → y ≡ readStep (m .zero) (m .decay) s d
-    → x ≡ predicted (m .coef) (getD es k nan) prev (ofInt binary32 (y .value)) → h ≡ carried (m .beta) prev (ofInt binary32 (y .value))
-    → stepped (set es k x) h (y .next) ≡ energyAt m s k prev d es
+    → x ≡ predicted (m .coef) (getD es k nan) prev (ofInt binary32 (y .value)) → h ≡ handedOn (m .beta) prev (ofInt binary32 (y .value))
+    → coarseStep (set es k x) h (y .next) ≡ energyAt m s k prev d es
 unfolding energyAt
 energy-is m s k prev d es e f g = rw (f, g, e)
 
+-- one symbol fewer can be read
 pub energy-ready : (n : ℕ) (m : Kind) (s : List ℕ) (k : ℕ) (prev : Float) (d : Reader) (es : List Float) → legal (m .zero) (m .decay) ≡ true → Ready (suc n) d
     → Ready n (energyAt m s k prev d es .next)
 unfolding energyAt
 energy-ready n m s k prev d es ok r = step-ready n (m .zero) (m .decay) s d ok r
 
--- the same of the reader that a call answers
-pub energy-then : (n : ℕ) (m : Kind) (s : List ℕ) (k : ℕ) (prev : Float) (d : Reader) (es : List Float) {fs : List Float} {h : Float} {r : Reader}
-    → legal (m .zero) (m .decay) ≡ true → Ready (suc n) d → stepped fs h r ≡ energyAt m s k prev d es → Ready n r
-energy-then n m s k prev d es ok r e = rw (ap (λ (x : Stepped). x .next) e) (energy-ready n m s k prev d es ok r)
-
 -- ---- one channel
 
-module _ (m : Kind) (s : List ℕ) (k : ℕ) (g : Going) where
+module _ (m : Kind) (s : List ℕ) (k : ℕ) (g : CoarseState) where
   -- the energy at place k, as a call has it
-  abbrev pub placeAt : Going
+  abbrev pub placeAt : CoarseState
   placeAt = cond (leb 21 k) (secondAt m s (k - 21) g) (firstAt m s k g)
 
+  -- the code's channel is the one that the place belongs to
   pub channel-is : (t : Bool) → leb 21 k ≡ t → {prev h a b : Float} {es : List Float} {d : Reader} → prev ≡ cond t (g .second) (g .first)
-      → stepped es h d ≡ energyAt m s k prev (g .next) (g .energies) → a ≡ cond t (g .first) h → b ≡ cond t h (g .second) → going es a b d ≡ placeAt
+      → coarseStep es h d ≡ energyAt m s k prev (g .next) (g .energies) → a ≡ cond t (g .first) h → b ≡ cond t h (g .second) → coarseState es a b d ≡ placeAt
   channel-is true e p q u v =
       let f : k - 21 + 21 ≡ k = omega (arith, leb-true 21 k e) in
       let y = rw p at q in
@@ -57,17 +55,20 @@ module _ (m : Kind) (s : List ℕ) (k : ℕ) (g : Going) where
 -- ---- one band
 
 -- the first n channels of band i
-unfoldable pub channels : Kind → List ℕ → ℕ → ℕ → Going → Going
+unfoldable pub channels : Kind → List ℕ → ℕ → ℕ → CoarseState → CoarseState
 channels m s i zero g = g
 channels m s i (suc zero) g = firstAt m s i g
 channels m s i (suc (suc n)) g = secondAt m s i (firstAt m s i g)
 
-module _ (m : Kind) (s : List ℕ) (i : ℕ) (g : Going) where
+module _ (m : Kind) (s : List ℕ) (i : ℕ) (g : CoarseState) where
+  -- before the first
   pub channels-none : i < 21 → g ≡ channels m s i (i / 21) g
   unfolding channels
   channels-none h = let e : i / 21 ≡ 0 = omega arith in rw e
 
-  pub channels-up : (k : ℕ) → i < 21 → k % 21 ≡ i → k < 42 → {t r : Going} → t ≡ channels m s i (k / 21) g → r ≡ placeAt m s k t → r ≡ channels m s i ((k + 21) / 21) g
+  -- one more
+  pub channels-up : (k : ℕ) → i < 21 → k % 21 ≡ i → k < 42 → {t r : CoarseState} → t ≡ channels m s i (k / 21) g → r ≡ placeAt m s k t
+      → r ≡ channels m s i ((k + 21) / 21) g
   unfolding channels
   channels-up k h e l p q =
       split-on (leb 21 k)
@@ -76,15 +77,17 @@ module _ (m : Kind) (s : List ℕ) (i : ℕ) (g : Going) where
       let x : k / 21 ≡ 1 = omega arith in
       let y : (k + 21) / 21 ≡ 2 = omega arith in
       let z : k - 21 ≡ i = omega arith in
-      rw y ((rw (b, z) at q) ∙ ap (λ (x : Going). secondAt m s i x) (rw x at p)))
+      rw y ((rw (b, z) at q) ∙ ap (λ (x : CoarseState). secondAt m s i x) (rw x at p)))
       (λ b.
       let n = leb-false 21 k b in
       let x : k / 21 ≡ 0 = omega arith in
       let y : (k + 21) / 21 ≡ 1 = omega arith in
       let z : k ≡ i = omega arith in
-      rw y ((rw (b, z) at q) ∙ ap (λ (x : Going). firstAt m s i x) (rw x at p)))
+      rw y ((rw (b, z) at q) ∙ ap (λ (x : CoarseState). firstAt m s i x) (rw x at p)))
 
-  pub channels-ready : (k : ℕ) → legal (m .zero) (m .decay) ≡ true → Ready 2 (g .next) → k < 42 → {t : Going} → t ≡ channels m s i (k / 21) g → Ready 1 (t .next)
+  -- a symbol can be read for the next
+  pub channels-ready : (k : ℕ) → legal (m .zero) (m .decay) ≡ true → Ready 2 (g .next) → k < 42 → {t : CoarseState} → t ≡ channels m s i (k / 21) g
+      → Ready 1 (t .next)
   unfolding channels
   channels-ready k ok r l p =
       by-le 21 k
@@ -100,12 +103,13 @@ module _ (m : Kind) (s : List ℕ) (i : ℕ) (g : Going) where
       (λ b. let x = rw b at f in let y : k / 21 ≡ 2 = omega (arith, x) in rw (b, y, ← e))
       (λ b. let x = rw b at f in let y : k / 21 ≡ 1 = omega (arith, x) in rw (b, y, ← e))
 
-pub band-ready : (n c lm : ℕ) (intra : Bool) (s : List ℕ) (i : ℕ) (g : Going) → lm < 4 → Ready (suc (suc n)) (g .next)
+-- two symbols fewer can be read
+pub band-ready : (n c lm : ℕ) (intra : Bool) (s : List ℕ) (i : ℕ) (g : CoarseState) → lm < 4 → Ready (suc (suc n)) (g .next)
     → Ready n (coarseBand c lm intra s i g .next)
 unfolding coarseBand
 band-ready n c lm intra s i g h r =
     let ok = kind-legal lm intra i h in
     let m = kindOf lm intra i in
     let a = energy-ready (suc n) m s i (g .first) (g .next) (g .energies) ok r in
-    cond-by (λ (x : Going). Ready n (x .next)) (leb 2 c) (λ e. energy-ready n m s (i + 21) _ _ _ ok a)
+    cond-by (λ (x : CoarseState). Ready n (x .next)) (leb 2 c) (λ e. energy-ready n m s (i + 21) _ _ _ ok a)
     (λ e. ready-less n (suc n) _ (omega arith) a)

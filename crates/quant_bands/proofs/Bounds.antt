@@ -10,7 +10,7 @@ use lib.Ieee.{Float, binary32, fits, lt, add, mul, sub, ofInt}
 use lib.Ieee.Scale.{finite}
 use Rattle.laws.proofs.Tests.{cond-by}
 use Rattle.laws.proofs.Within.{Within, within-finite, within-more, f32-within, Whole, round-within, add-within, sub-within, mul-within}
-use Rattle.quant_bands.specs.Prediction.{lowest, raised, predicted, carried}
+use Rattle.quant_bands.specs.Prediction.{lowest, raised, predicted, handedOn}
 
 -- a multiple of 2^120 below 2^128
 high : (q : ℕ) → q < 256 → Whole (q * 2 ^ 120)
@@ -18,9 +18,11 @@ high q h =
     let l : q * 2 ^ 120 < 256 * 2 ^ 120 = mul-lt-mul-of-pos-right h (lit< tt) in
     record { q = q; k = 120; is = refl; few = lt-of-lt-of-le h (lit≤ tt); under = lt-of-lt-of-le l (lit≤ tt) }
 
+-- an energy that is raised to -9 is still an f32
 raised-within : (x : Float) → T (fits binary32 x) → T (finite x) → Within (raised x) (2 ^ 128) 1
 raised-within x f t = cond-by (λ (y : Float). Within y (2 ^ 128) 1) (lt x lowest) (λ e. lit≤ tt) (λ e. f32-within x f t)
 
+-- alpha takes a tenth away, which is more than what is inherited and the step can add
 pub predicted-finite : (coef old prev q : Float) → Within coef 230 256 → T (fits binary32 old) → T (finite old) → Within prev 1376256 1 → Within q 32768 1
     → T (finite (predicted coef old prev q))
 unfolding predicted
@@ -36,8 +38,9 @@ predicted-finite coef old prev q hc f t hp hq =
     within-finite (add binary32 x2 q) (232 * 2 ^ 120) 1 w3
 
 -- what is handed on grows by 2^16 a band at most
-pub carried-within : (beta prev q : Float) (k : ℕ) → k ≤ 21 → Within beta 1 1 → Within prev (k * 65536) 1 → Within q 32768 1 → Within (carried beta prev q) (suc k * 65536) 1
-unfolding carried
+pub carried-within : (beta prev q : Float) (k : ℕ) → k ≤ 21 → Within beta 1 1 → Within prev (k * 65536) 1 → Within q 32768 1
+    → Within (handedOn beta prev q) (suc k * 65536) 1
+unfolding handedOn
 carried-within beta prev q k h hb hp hq =
     let w1 : Whole (k * 65536 + 32768)
     = record { q = k * 2 + 1; k = 15; is = omega arith; few = omega arith; under = lt-of-lt-of-le {m = 16777216} (omega arith) (lit≤ tt) } in

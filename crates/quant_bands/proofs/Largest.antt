@@ -24,6 +24,7 @@ top : HasValue (round binary32 false (4 * largest + 1) 4) false largest 1
 unfolding round
 top = (refl, refl)
 
+-- what is at most a quarter above the largest rounds to at most the largest
 round-top : (s : Bool) (n d : ℕ) → 0 < d → n * 4 ≤ (4 * largest + 1) * d → Within (round binary32 s n d) largest 1
 round-top s n d D h = go s
   where
@@ -38,20 +39,22 @@ round-top s n d D h = go s
 
 -- ---- every finite f32 is at most the largest
 
-less-one : {a : ℕ} → a < 16777216 → a ≤ 16777215
-less-one h = omega arith
+-- as omega would have it, over a variable
+below-top : {a : ℕ} → a < 16777216 → a ≤ 16777215
+below-top h = omega arith
 
 -- m * 2^k below 2^128, in units of 2^104
 up-most : (m k : ℕ) → m < 16777216 → m * 2 ^ k < 2 ^ 128 → m * 2 ^ k ≤ largest
 up-most m k h l =
-    by-le k 104 (λ a. mul-le-mul (less-one h) (pow-mono a))
+    by-le k 104 (λ a. mul-le-mul (below-top h) (pow-mono a))
     (λ a.
     let j : k ≡ (k - 104) + 104 = omega arith in
     let e : m * 2 ^ k ≡ m * 2 ^ (k - 104) * 2 ^ 104
     = ap (λ (z : ℕ). m * 2 ^ z) j ∙ ap (λ (z : ℕ). m * z) (pow-add 2 (k - 104) 104) ∙ sym (mul-assoc m (2 ^ (k - 104)) (2 ^ 104)) in
     let b : m * 2 ^ (k - 104) < 16777216 = lt-of-mul-lt-mul-right (2 ^ 104) (subst (λ (z : ℕ). z < 2 ^ 128) e l) in
-    le-trans (le-of-eq e) (mul-le-mul-right (2 ^ 104) (less-one b)))
+    le-trans (le-of-eq e) (mul-le-mul-right (2 ^ 104) (below-top b)))
 
+-- by the exponent's sign
 f32-most : (x : Float) → T (fits binary32 x) → T (finite x) → Within x largest 1
 unfolding fits
 f32-most nan f t = t
@@ -74,12 +77,13 @@ f32-most (fin s (suc m) (negsuc k)) f t =
 
 -- ---- the sum
 
+-- of either sign, the sum or the difference
 sum-top : (s t : Bool) (A B C : ℕ) → 0 < C → (A + B) * 4 ≤ (4 * largest + 1) * C → Within (sum binary32 s A t B C) largest 1
 unfolding sum
 sum-top s t A B C c h = go (Bool·beq s t) (ltb A B)
   where
-    less : (x y : ℕ) → x ≤ y → y * 4 ≤ (4 * largest + 1) * C → x * 4 ≤ (4 * largest + 1) * C
-    less x y l h = le-trans (mul-le-mul-right 4 l) h
+    scaled-le : (x y : ℕ) → x ≤ y → y * 4 ≤ (4 * largest + 1) * C → x * 4 ≤ (4 * largest + 1) * C
+    scaled-le x y l h = le-trans (mul-le-mul-right 4 l) h
 
     ba : B - A ≤ A + B
     ba = omega arith
@@ -89,9 +93,10 @@ sum-top s t A B C c h = go (Bool·beq s t) (ltb A B)
 
     go : (p q : Bool) → Within (cond p (round binary32 s (A + B) C) (cond q (round binary32 t (B - A) C) (round binary32 (s && ltb B A) (A - B) C))) largest 1
     go true q = round-top s (A + B) C c h
-    go false true = round-top t (B - A) C c (less (B - A) (A + B) ba h)
-    go false false = round-top (s && ltb B A) (A - B) C c (less (A - B) (A + B) ab h)
+    go false true = round-top t (B - A) C c (scaled-le (B - A) (A + B) ba h)
+    go false false = round-top (s && ltb B A) (A - B) C c (scaled-le (A - B) (A + B) ab h)
 
+-- over a common denominator
 lift : (L p q P Q : ℕ) → p * 1 ≤ L * P → q * 4 ≤ 1 * Q → (p * Q + q * P) * 4 ≤ (4 * L + 1) * (P * Q)
 lift L p q P Q h k =
     let a : p * 1 * Q ≤ L * P * Q = mul-le-mul-right Q h in
@@ -99,11 +104,13 @@ lift L p q P Q h k =
     let c : L * P * Q ≡ L * (P * Q) = mul-assoc L P Q in
     omega arith
 
+-- the largest and a quarter at most
 sum-most : (x y : Float) → Within x largest 1 → Within y 1 4 → Within (add binary32 x y) largest 1
 unfolding add
 sum-most (fin s m e) (fin u n d) h k =
     sum-top s u (m * up e * down d) (n * up d * down e) (down e * down d) (mul-pos (down-pos e) (down-pos d))
     (lift largest (m * up e) (n * up d) (down e) (down d) h k)
 
+-- so the sum is finite
 pub quarter-finite : (x y : Float) → T (fits binary32 x) → T (finite x) → Within y 1 4 → T (finite (add binary32 x y))
 quarter-finite x y f t w = within-finite (add binary32 x y) largest 1 (sum-most x y (f32-most x f t) w)

@@ -1,3 +1,4 @@
+-- The laws of a step, of a band and of the passes, of a call's answer, and what the energies keep.
 pub mod Stepping
 pub mod BandKind
 pub mod Banded
@@ -10,4 +11,3 @@ pub mod Outside
 pub mod Bounds
 pub mod Largest
 pub mod Finite
-pub mod Figures

@@ -1,13 +1,11 @@
 -- What a call leaves alone: the energies outside its bands, and those of channel 1 where there is one channel. Assumes nothing.
-use Prim.Native.Nat.{ℕ, zero, suc, _+_, _-_, _≤_, _<_}
+use Prim.Native.Nat.{ℕ, zero, suc, _+_, _-_, _≤_}
 use mathlib.Core.Path.{_≡_, refl, _∙_}
 use mathlib.Core.Bool.{Bool}
 use mathlib.Core.List.{List}
-use mathlib.Core.Logic.{_⊎_, inl, inr}
 use native.Mathlib.Omega.{arith}
 use lib.Dec.{leb}
-use lib.IntN.{ℤ}
-use lib.ListN.{length, getD, length-set}
+use lib.ListN.{length-set}
 use lib.Seq.{getD-set-other}
 use lib.Ieee.{Float, nan}
 use borrow.Author.Tests.{leb-true}
@@ -18,67 +16,56 @@ use Rattle.laws.proofs.Tests.{cond-by}
 use Rattle.entcode.specs.Said.{lentAfter}
 use Rattle.entdec.specs.declared.Reader.{Reader}
 use Rattle.quant_bands.specs.declared.coarse_band.Kind.{Kind}
-use Rattle.quant_bands.specs.Coarse.{Decoded, Going, energyAt, begun, coarseBand, coarse}
-use Rattle.quant_bands.specs.Finalise.{Spending, spending, spendAt, takes, spendBand, spendPass, finalise}
-use Rattle.quant_bands.specs.Question.{isIntra, entryOf}
-use Rattle.quant_bands.specs.Answer.{coarseReading, finaliseReading}
+use Rattle.quant_bands.specs.Coarse.{EnergiesAfter, CoarseState, energyAt, coarseStart, coarseBand, coarse}
+use Rattle.quant_bands.specs.Finalise.{Spending, spending, spendAt, takesBit, spendBand, spendPass, finalise}
+use Rattle.quant_bands.specs.Question.{isIntra, countAt}
+use Rattle.quant_bands.specs.Promises.{Outside, Stays, CoarseOutsideStays, FinaliseOutsideStays}
 
--- place k is neither that of a band start..end-1 in channel 0 nor, with two channels, that of one in channel 1
-abbrev pub Outside : ℕ → ℕ → ℕ → ℕ → Type 0
-Outside c start end k = (i : ℕ) → start ≤ i → i < end → (k ≡ i → ⊥) × (2 ≤ c → k ≡ i + 21 → ⊥)
+-- ---- which places are outside: of a mono call, all of channel 1
 
--- ---- which places are so
-
--- of channel 0
-pub outside-first : (c start end k : ℕ) → end ≤ 21 → k < 21 → (k < start) ⊎ (end ≤ k) → Outside c start end k
-outside-first c start end k e h (inl l) i p q = ((λ x. omega arith), (λ y x. omega arith))
-outside-first c start end k e h (inr l) i p q = ((λ x. omega arith), (λ y x. omega arith))
-
--- of channel 1
-pub outside-second : (c start end j : ℕ) → end ≤ 21 → (j < start) ⊎ (end ≤ j) → Outside c start end (j + 21)
-outside-second c start end j e (inl l) i p q = ((λ x. omega arith), (λ y x. omega arith))
-outside-second c start end j e (inr l) i p q = ((λ x. omega arith), (λ y x. omega arith))
-
--- all of channel 1, of a mono call
+-- whatever its bands
 pub outside-mono : (start end k : ℕ) → end ≤ 21 → 21 ≤ k → Outside 1 start end k
 outside-mono start end k e h i p q = ((λ x. omega arith), (λ y x. omega arith))
 
--- ---- the same list, and the same at place k
+-- ---- a list that stays the same at place k
 
-pub record Stays (k : ℕ) (es fs : List Float) : Type 0 where
-  pub long : length fs ≡ length es
-  pub same : getD fs k nan ≡ getD es k nan
-
+-- nothing was stored
 stays-none : (k : ℕ) (es : List Float) → Stays k es es
 stays-none k es = record { long = refl; same = refl }
 
+-- one after the other
 stays-then : (k : ℕ) (es fs gs : List Float) → Stays k es fs → Stays k fs gs → Stays k es gs
 stays-then k es fs gs a b = record { long = b .long ∙ a .long; same = b .same ∙ a .same }
 
-energy-stays : (m : Kind) (s : List ℕ) (j : ℕ) (prev : Float) (d : Reader) (es : List Float) (k : ℕ) → (k ≡ j → ⊥) → Stays k es (energyAt m s j prev d es .energies)
+-- a coarse step stores at its own place only
+energy-stays : (m : Kind) (s : List ℕ) (j : ℕ) (prev : Float) (d : Reader) (es : List Float) (k : ℕ) → (k ≡ j → ⊥)
+    → Stays k es (energyAt m s j prev d es .energies)
 unfolding energyAt
 energy-stays m s j prev d es k h = record { long = length-set es j _; same = getD-set-other es j k _ nan h }
 
+-- and so does a last bit
 spend-stays : (fine : ℕ) (s : List ℕ) (j : ℕ) (g : Spending) (k : ℕ) → (k ≡ j → ⊥) → Stays k (g .energies) (spendAt fine s j g .energies)
 unfolding spendAt
 spend-stays fine s j g k h = record { long = length-set (g .energies) j _; same = getD-set-other (g .energies) j k _ nan h }
 
 -- ---- a band
 
-coarse-band-stays : (c lm : ℕ) (intra : Bool) (s : List ℕ) (i : ℕ) (g : Going) (k : ℕ) → (k ≡ i → ⊥) × (2 ≤ c → k ≡ i + 21 → ⊥)
+-- of the coarse decode
+coarse-band-stays : (c lm : ℕ) (intra : Bool) (s : List ℕ) (i : ℕ) (g : CoarseState) (k : ℕ) → (k ≡ i → ⊥) × (2 ≤ c → k ≡ i + 21 → ⊥)
     → Stays k (g .energies) (coarseBand c lm intra s i g .energies)
 unfolding coarseBand
 coarse-band-stays c lm intra s i g k h =
     let a = energy-stays _ s i (g .first) (g .next) (g .energies) k (h .0) in
-    cond-by (λ (x : Going). Stays k (g .energies) (x .energies)) (leb 2 c)
+    cond-by (λ (x : CoarseState). Stays k (g .energies) (x .energies)) (leb 2 c)
     (λ e. stays-then k (g .energies) _ _ a (energy-stays _ s (i + 21) _ _ _ k (h .1 (leb-true 2 c e)))) (λ e. a)
 
-spend-band-stays : (c turn : ℕ) (fine priority : ℕ → ℕ) (s : List ℕ) (i : ℕ) (g : Spending) (k : ℕ) → (k ≡ i → ⊥) × (2 ≤ c → k ≡ i + 21 → ⊥)
-    → Stays k (g .energies) (spendBand c turn fine priority s i g .energies)
+-- of the last bits
+spend-band-stays : (c pass : ℕ) (fine priority : ℕ → ℕ) (s : List ℕ) (i : ℕ) (g : Spending) (k : ℕ) → (k ≡ i → ⊥) × (2 ≤ c → k ≡ i + 21 → ⊥)
+    → Stays k (g .energies) (spendBand c pass fine priority s i g .energies)
 unfolding spendBand
-spend-band-stays c turn fine priority s i g k h =
+spend-band-stays c pass fine priority s i g k h =
     let a = spend-stays (fine i) s i g k (h .0) in
-    cond-by (λ (x : Spending). Stays k (g .energies) (x .energies)) (takes c turn (fine i) (priority i) (g .left))
+    cond-by (λ (x : Spending). Stays k (g .energies) (x .energies)) (takesBit c pass (fine i) (priority i) (g .left))
     (λ e.
     cond-by (λ (x : Spending). Stays k (g .energies) (x .energies)) (leb 2 c)
     (λ e. stays-then k (g .energies) _ _ a (spend-stays (fine i) s (i + 21) _ k (h .1 (leb-true 2 c e)))) (λ e. a))
@@ -87,24 +74,28 @@ spend-band-stays c turn fine priority s i g k h =
 -- ---- the bands
 
 module _ {S : Type 0} (energies : S → List Float) (f : ℕ → S → S) (c k : ℕ)
-    (one : (i : ℕ) (g : S) → (k ≡ i → ⊥) × (2 ≤ c → k ≡ i + 21 → ⊥) → Stays k (energies g) (energies (f i g))) where
+    (each : (i : ℕ) (g : S) → (k ≡ i → ⊥) × (2 ≤ c → k ≡ i + 21 → ⊥) → Stays k (energies g) (energies (f i g))) where
+  -- whatever the bands do, if each leaves place k alone
   places-stay : (start end : ℕ) (g : S) → Outside c start end k → Stays k (energies g) (energies (overPlaces f start (end - start) g))
   places-stay start end g h =
       places-keep f (λ n x. Stays k (energies g) (energies x)) start (end - start) g (stays-none k (energies g))
-      (λ n x l p. stays-then k (energies g) (energies x) _ p (one (start + n) x (h (start + n) (omega arith) (omega arith))))
+      (λ n x l p. stays-then k (energies g) (energies x) _ p (each (start + n) x (h (start + n) (omega arith) (omega arith))))
 
+-- a whole coarse decode
 pub coarse-stays : (c lm : ℕ) (intra : Bool) (start end : ℕ) (s : List ℕ) (d : Reader) (es : List Float) (k : ℕ) → Outside c start end k
     → Stays k es (coarse c lm intra start end s d es .energies)
 unfolding coarse
 coarse-stays c lm intra start end s d es k h =
-    places-stay (λ (g : Going). g .energies) (coarseBand c lm intra s) c k (λ i g. coarse-band-stays c lm intra s i g k) start end (begun d es) h
+    places-stay (λ (g : CoarseState). g .energies) (coarseBand c lm intra s) c k (λ i g. coarse-band-stays c lm intra s i g k) start end (coarseStart d es) h
 
-pass-stays : (c turn : ℕ) (fine priority : ℕ → ℕ) (start end : ℕ) (s : List ℕ) (g : Spending) (k : ℕ) → Outside c start end k
-    → Stays k (g .energies) (spendPass c turn fine priority start end s g .energies)
+-- a pass of the last bits
+pass-stays : (c pass : ℕ) (fine priority : ℕ → ℕ) (start end : ℕ) (s : List ℕ) (g : Spending) (k : ℕ) → Outside c start end k
+    → Stays k (g .energies) (spendPass c pass fine priority start end s g .energies)
 unfolding spendPass
-pass-stays c turn fine priority start end s g k h =
-    places-stay (λ (x : Spending). x .energies) (spendBand c turn fine priority s) c k (λ i x. spend-band-stays c turn fine priority s i x k) start end g h
+pass-stays c pass fine priority start end s g k h =
+    places-stay (λ (x : Spending). x .energies) (spendBand c pass fine priority s) c k (λ i x. spend-band-stays c pass fine priority s i x k) start end g h
 
+-- both passes
 pub finalise-stays : (c : ℕ) (fine priority : ℕ → ℕ) (start end left : ℕ) (s : List ℕ) (d : Reader) (es : List Float) (k : ℕ) → Outside c start end k
     → Stays k es (finalise c fine priority start end left s d es .energies)
 unfolding finalise
@@ -113,19 +104,20 @@ finalise-stays c fine priority start end left s d es k h =
 
 -- ---- the calls, refused ones too
 
-answer-stays : (n : ℕ) (y : Decoded) (es : List Float) (k : ℕ) → Stays k es (y .energies) → Stays k es (lentAfter n (y .energies) es)
+-- a refusal leaves every place
+answer-stays : (n : ℕ) (y : EnergiesAfter) (es : List Float) (k : ℕ) → Stays k es (y .energies) → Stays k es (lentAfter n (y .energies) es)
 unfolding lentAfter
 answer-stays zero y es k h = h
 answer-stays (suc n) y es k h = stays-none k es
 
-pub coarse-call-stays : (c lm start end intra : ℤ) (s : List ℕ) (d : Reader) (es : List Float) (k : ℕ) → Outside (clip c) (clip start) (clip end) k
-    → Stays k es (coarseReading c lm start end intra s d es .energies)
+-- of a coarse decode
+pub coarse-call-stays : CoarseOutsideStays
 coarse-call-stays c lm start end intra s d es k h =
     answer-stays _ (coarse (clip c) (clip lm) (isIntra intra) (clip start) (clip end) s d es) es k
     (coarse-stays (clip c) (clip lm) (isIntra intra) (clip start) (clip end) s d es k h)
 
-pub finalise-call-stays : (c start end : ℤ) (fine priorities : List ℤ) (left : ℤ) (s : List ℕ) (d : Reader) (es : List Float) (k : ℕ)
-    → Outside (clip c) (clip start) (clip end) k → Stays k es (finaliseReading c start end fine priorities left s d es .energies)
+-- of the last bits
+pub finalise-call-stays : FinaliseOutsideStays
 finalise-call-stays c start end fine priorities left s d es k h =
-    answer-stays _ (finalise (clip c) (entryOf fine) (entryOf priorities) (clip start) (clip end) (clip left) s d es) es k
-    (finalise-stays (clip c) (entryOf fine) (entryOf priorities) (clip start) (clip end) (clip left) s d es k h)
+    answer-stays _ (finalise (clip c) (countAt fine) (countAt priorities) (clip start) (clip end) (clip left) s d es) es k
+    (finalise-stays (clip c) (countAt fine) (countAt priorities) (clip start) (clip end) (clip left) s d es k h)

@@ -8,14 +8,14 @@ use Rattle.entcode.specs.Said.{Said, answer, lentAfter}
 use Rattle.entcode.specs.Said.Said.{done, refused}
 use Rattle.entdec.specs.declared.Reader.{Reader}
 use Rattle.quant_bands.specs.declared.EnergyRead.{EnergyRead}
-use Rattle.quant_bands.specs.declared.EnergyRead.the-variants.{Got, Refused}
-use Rattle.quant_bands.specs.Coarse.{Decoded, coarse}
+use Rattle.quant_bands.specs.declared.EnergyRead.the-variants.{Done, Refused}
+use Rattle.quant_bands.specs.Coarse.{EnergiesAfter, coarse}
 use Rattle.quant_bands.specs.Finalise.{finalise}
-use Rattle.quant_bands.specs.Question.{refusalCoarse, refusalFinalise, isIntra, entryOf}
+use Rattle.quant_bands.specs.Question.{refusalCoarse, refusalFinalise, isIntra, countAt}
 
 -- what an answer says
 abbrev pub said : EnergyRead → Said Reader
-said (Got d) = done d
+said (Done d) = done d
 said (Refused n) = refused n
 
 -- what is said, and the lent energies after the call
@@ -23,11 +23,12 @@ pub record After : Type 0 where
   pub said : Said Reader
   pub energies : List Float
 
+-- made of its two parts
 abbrev pub after : EnergyRead → List Float → After
 after r es = record { said = said r; energies = es }
 
 -- number 0: the reader and the energies of the definition; any other: that refusal, and the energies as they were
-abbrev pub answerR : ℕ → Decoded → List Float → After
+abbrev pub answerR : ℕ → EnergiesAfter → List Float → After
 answerR n y es = record { said = answer n (y .next); energies = lentAfter n (y .energies) es }
 
 -- a checked coarse decode
@@ -39,5 +40,5 @@ coarseReading c lm start end intra s d es =
 abbrev pub finaliseReading : ℤ → ℤ → ℤ → List ℤ → List ℤ → ℤ → List ℕ → Reader → List Float → After
 finaliseReading c start end fine priorities left s d es =
     answerR (refusalFinalise c start end fine priorities s d es)
-    (finalise (clip c) (entryOf fine) (entryOf priorities) (clip start) (clip end) (clip left) s d es)
+    (finalise (clip c) (countAt fine) (countAt priorities) (clip start) (clip end) (clip left) s d es)
     es

@@ -1,4 +1,4 @@
--- The bits that are left over at the end of a frame, RFC 6716, section 4.3.2.2: each halves the step of one fine energy.
+-- The bits that are left over at the end of a frame, RFC 6716, section 4.3.2.2: each halves the step of one fine energy (unquant_energy_finalise).
 use Prim.Native.Nat.{ℕ, _+_, _-_, _^_}
 use mathlib.Core.List.{List}
 use mathlib.Core.Bool.{Bool, false, cond, _&&_}
@@ -10,7 +10,7 @@ use Rattle.laws.specs.Places.{overPlaces}
 use Rattle.entcode.specs.Sym.Shape.{raw}
 use Rattle.entdec.specs.declared.Reader.{Reader}
 use Rattle.entdec.specs.Symbols.{readSym}
-use Rattle.quant_bands.specs.Coarse.{Decoded, decoded}
+use Rattle.quant_bands.specs.Coarse.{EnergiesAfter, energiesAfter}
 
 -- (bit - 0.5) * 2^(13 - fine) * (1 / 16384), each operation rounded once; the three values are 0.5, 1 and 16384
 unfoldable pub offsetOf : ℕ → ℕ → Float
@@ -34,23 +34,23 @@ spendAt fine s k g =
     let y = readSym (raw 1) s (g .next) in
     spending (set (g .energies) k (add binary32 (getD (g .energies) k nan) (offsetOf (y .value) fine))) (g .left - 1) (y .next)
 
--- a band with 8 fine bits takes no more, a band of the other priority has its turn in the other pass, and a band takes a bit for each of its
+-- a band with 8 fine bits takes no more, a band of the other priority has its place in the other pass, and a band takes a bit for each of its
 -- channels or none
-unfoldable pub takes : ℕ → ℕ → ℕ → ℕ → ℕ → Bool
-takes c turn fine priority left = ltb fine 8 && eqb priority turn && leb c left
+unfoldable pub takesBit : ℕ → ℕ → ℕ → ℕ → ℕ → Bool
+takesBit c pass fine priority left = ltb fine 8 && eqb priority pass && leb c left
 
 -- band i of c channels in the pass of a priority
 unfoldable pub spendBand : ℕ → ℕ → (ℕ → ℕ) → (ℕ → ℕ) → List ℕ → ℕ → Spending → Spending
-spendBand c turn fine priority s i g =
-    cond (takes c turn (fine i) (priority i) (g .left))
+spendBand c pass fine priority s i g =
+    cond (takesBit c pass (fine i) (priority i) (g .left))
     (cond (leb 2 c) (spendAt (fine i) s (i + 21) (spendAt (fine i) s i g)) (spendAt (fine i) s i g))
     g
 
 -- the bands start..end-1 in the pass of a priority
 unfoldable pub spendPass : ℕ → ℕ → (ℕ → ℕ) → (ℕ → ℕ) → ℕ → ℕ → List ℕ → Spending → Spending
-spendPass c turn fine priority start end s g = overPlaces (spendBand c turn fine priority s) start (end - start) g
+spendPass c pass fine priority start end s g = overPlaces (spendBand c pass fine priority s) start (end - start) g
 
 -- priority 0 goes first
-unfoldable pub finalise : ℕ → (ℕ → ℕ) → (ℕ → ℕ) → ℕ → ℕ → ℕ → List ℕ → Reader → List Float → Decoded
+unfoldable pub finalise : ℕ → (ℕ → ℕ) → (ℕ → ℕ) → ℕ → ℕ → ℕ → List ℕ → Reader → List Float → EnergiesAfter
 finalise c fine priority start end left s d es =
-    let g = spendPass c 1 fine priority start end s (spendPass c 0 fine priority start end s (spending es left d)) in decoded (g .energies) (g .next)
+    let g = spendPass c 1 fine priority start end s (spendPass c 0 fine priority start end s (spending es left d)) in energiesAfter (g .energies) (g .next)

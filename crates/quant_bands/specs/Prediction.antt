@@ -17,5 +17,5 @@ unfoldable pub predicted : Float → Float → Float → Float → Float
 predicted coef old prev q = add binary32 (add binary32 (mul binary32 coef (raised old)) prev) q
 
 -- prev + q - beta * q: what the next band inherits
-unfoldable pub carried : Float → Float → Float → Float
-carried beta prev q = sub binary32 (add binary32 prev q) (mul binary32 beta q)
+unfoldable pub handedOn : Float → Float → Float → Float
+handedOn beta prev q = sub binary32 (add binary32 prev q) (mul binary32 beta q)

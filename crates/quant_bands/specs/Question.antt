@@ -55,5 +55,5 @@ abbrev pub isIntra : ℤ → Bool
 isIntra z = ltZ (pos 0) z
 
 -- a band's entry of a list, as a count
-abbrev pub entryOf : List ℤ → ℕ → ℕ
-entryOf l i = clip (getD l i (pos 0))
+abbrev pub countAt : List ℤ → ℕ → ℕ
+countAt l i = clip (getD l i (pos 0))

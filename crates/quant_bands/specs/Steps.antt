@@ -18,20 +18,20 @@ unfoldable pub bitsLeft : Reader → ℕ
 bitsLeft d = 8 * d .storage - tellOf (d .total) (d .rng)
 
 -- a step read, and the reader after it
-abbrev pub stepOf : ℤ → Reader → LapSym
-stepOf q d = record { value = q; next = d }
+abbrev pub stepRead : ℤ → Reader → LapSym
+stepRead q d = record { value = q; next = d }
 
 -- the three-way table: its symbols 0, 1, 2 stand for 0, -1, 1, in the order in which Laplace values are counted
 abbrev pub readSmall : List ℕ → Reader → LapSym
-readSmall s d = stepOf (valueAt (readSym (table smallEnergy 2) s d .value)) (readSym (table smallEnergy 2) s d .next)
+readSmall s d = stepRead (valueAt (readSym (table smallEnergy 2) s d .value)) (readSym (table smallEnergy 2) s d .next)
 
 -- minus a bit
 abbrev pub readMinus : List ℕ → Reader → LapSym
-readMinus s d = stepOf (negℤ (pos (readSym (bit 1) s d .value))) (readSym (bit 1) s d .next)
+readMinus s d = stepRead (negℤ (pos (readSym (bit 1) s d .value))) (readSym (bit 1) s d .next)
 
--- 15 bits or more: a Laplace value with fs places for zero and the decay dec; 2 or more: the three-way table; 1: minus a bit; none: -1, and
--- nothing is read
+-- which of the three it is, by the bits that are left: the Laplace value, with fs places for zero and the decay dec, wants 15 of them; with no bit
+-- left the step is -1, and the reader stays
 unfoldable pub readStep : ℕ → ℕ → List ℕ → Reader → LapSym
 readStep fs dec s d =
     cond (leb 15 (bitsLeft d)) (readLap fs dec s d)
-    (cond (leb 2 (bitsLeft d)) (readSmall s d) (cond (leb 1 (bitsLeft d)) (readMinus s d) (stepOf (negsuc 0) d)))
+    (cond (leb 2 (bitsLeft d)) (readSmall s d) (cond (leb 1 (bitsLeft d)) (readMinus s d) (stepRead (negsuc 0) d)))

@@ -16,7 +16,7 @@ ghost use lib.ListN.{length};
 ghost use Rattle.modes.specs.EnergyModel.{energyModel};
 ghost use Rattle.modes.specs.Laplace.{legal};
 ghost use Rattle.entdec.specs.Ready.{Ready};
-ghost use Rattle.quant_bands.specs.Coarse.{going, kindOf, stepped, energyAt, firstAt, secondAt, coarseBand};
+ghost use Rattle.quant_bands.specs.Coarse.{coarseState, kindOf, coarseStep, energyAt, firstAt, secondAt, coarseBand};
 
 // What a band is decoded with: the places of zero and the decay of its Laplace values, and the two shares of the prediction.
 pub struct Kind {
@@ -58,7 +58,7 @@ fn energy(e: &mut [f32], k: usize, m: Kind, prev: f32, s: &[u8], d: Reader) -> H
     requires { ⌜ k < length (now e) ⌝ }
     requires { ⌜ legal (m .zero) (m .decay) ≡ true ⌝ }
     requires { ⌜ Ready 1 d ⌝ }
-    ensures { λ r. ⌜ stepped (now (e .exit)) (r .hands) (r .next) ≡ energyAt m (now (s .entry)) k prev d (now (e .entry)) ⌝ }
+    ensures { λ r. ⌜ coarseStep (now (e .exit)) (r .hands) (r .next) ≡ energyAt m (now (s .entry)) k prev d (now (e .entry)) ⌝ }
 {
     let y = read_step(d, s, m.zero, m.decay);
     let q = y.value as f32;
@@ -91,10 +91,10 @@ fn channel(e: &mut [f32], m: Kind, k: usize, s: &[u8], g: Hands) -> Hands
     requires { ⌜ legal (m .zero) (m .decay) ≡ true ⌝ }
     requires { ⌜ Ready 1 (g .next) ⌝ }
     ensures { λ r.
-        ⌜ going (now (e .exit)) (r .first) (r .second) (r .next)
+        ⌜ coarseState (now (e .exit)) (r .first) (r .second) (r .next)
         ≡ cond (leb 21 k)
-        (secondAt m (now (s .entry)) (k - 21) (going (now (e .entry)) (g .first) (g .second) (g .next)))
-        (firstAt m (now (s .entry)) k (going (now (e .entry)) (g .first) (g .second) (g .next))) ⌝ }
+        (secondAt m (now (s .entry)) (k - 21) (coarseState (now (e .entry)) (g .first) (g .second) (g .next)))
+        (firstAt m (now (s .entry)) k (coarseState (now (e .entry)) (g .first) (g .second) (g .next))) ⌝ }
 {
     let second = 21 <= k;
     let d = g.next;
@@ -122,8 +122,8 @@ pub fn coarse_band(
     requires { ⌜ (length (now e) ≡ 42) × (now t ≡ energyModel) × (lm < 4) × (i < 21) ⌝ }
     requires { ⌜ Ready 2 (g .next) ⌝ }
     ensures { λ r.
-        ⌜ going (now (e .exit)) (r .first) (r .second) (r .next)
-        ≡ coarseBand c lm intra (now (s .entry)) i (going (now (e .entry)) (g .first) (g .second) (g .next)) ⌝ }
+        ⌜ coarseState (now (e .exit)) (r .first) (r .second) (r .next)
+        ≡ coarseBand c lm intra (now (s .entry)) i (coarseState (now (e .entry)) (g .first) (g .second) (g .next)) ⌝ }
 {
     let m = kind_of(t, lm, intra, i);
     let end = end_of(c);

@@ -6,7 +6,7 @@ ghost use Prim.Native.Nat.{_≤_, _<_};
 ghost use lib.ListN.{length};
 ghost use Rattle.entdec.specs.Ready.{Ready};
 ghost use Rattle.quant_bands.specs.Finalise.{offsetOf, spending, spendAt, spendBand};
-ghost use Rattle.quant_bands.specs.Question.{entryOf};
+ghost use Rattle.quant_bands.specs.Question.{countAt};
 
 // The bits that are left over, and the reader.
 pub struct LeftOver {
@@ -45,7 +45,7 @@ pub fn spend_band(
     e: &mut [f32],
     fine: &[i32],
     priorities: &[i32],
-    turn: u32,
+    pass: u32,
     c: u32,
     i: usize,
     s: &[u8],
@@ -55,11 +55,12 @@ pub fn spend_band(
     requires { ⌜ Ready 2 (g .next) ⌝ }
     ensures { λ r.
         ⌜ spending (now (e .exit)) (r .left) (r .next)
-        ≡ spendBand c turn (entryOf (now (fine .entry))) (entryOf (now (priorities .entry))) (now (s .entry)) i (spending (now (e .entry)) (g .left) (g .next)) ⌝ }
+        ≡ spendBand c pass (countAt (now (fine .entry))) (countAt (now (priorities .entry))) (now (s .entry)) i
+        (spending (now (e .entry)) (g .left) (g .next)) ⌝ }
 {
     let f = clipped(fine[i]);
     let p = clipped(priorities[i]);
-    if (f < 8) & (p == turn) & (c <= g.left) {
+    if (f < 8) & (p == pass) & (c <= g.left) {
         let y = spend(e, i, f, s, g);
         if c < 2 {
             return y;

@@ -14,7 +14,7 @@ use laws::clipped;
 
 // What a call answers beside the lent energies: the reader after it, or the number of the refusal.
 pub enum EnergyRead {
-    Got(Reader),
+    Done(Reader),
     Refused(u32),
 }
 
@@ -40,7 +40,7 @@ pub fn unquant_coarse_energy(
         let from = edge::place_of(start);
         let to = edge::place_of(end);
         let next = work::coarse(d, s, energies, channels, size, from, to, 0 < intra);
-        EnergyRead::Got(next)
+        EnergyRead::Done(next)
     } else {
         EnergyRead::Refused(no)
     }
@@ -70,7 +70,7 @@ pub fn unquant_energy_finalise(
         let to = edge::place_of(end);
         let bits = clipped(left);
         let next = work::finalise(d, s, energies, channels, from, to, fine, priorities, bits);
-        EnergyRead::Got(next)
+        EnergyRead::Done(next)
     } else {
         EnergyRead::Refused(no)
     }

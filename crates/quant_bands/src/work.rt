@@ -10,10 +10,10 @@ ghost use lib.ListN.{length};
 ghost use Rattle.laws.specs.Places.{overPlaces};
 ghost use Rattle.modes.specs.EnergyModel.{energyModel};
 ghost use Rattle.entdec.specs.Ready.{Ready};
-ghost use Rattle.quant_bands.specs.Asked.{BandsIn};
-ghost use Rattle.quant_bands.specs.Coarse.{begun, coarse, coarseBand, decoded, going};
+ghost use Rattle.quant_bands.specs.Domain.{BandsIn};
+ghost use Rattle.quant_bands.specs.Coarse.{coarseStart, coarse, coarseBand, energiesAfter, coarseState};
 ghost use Rattle.quant_bands.specs.Finalise.{finalise, spending, spendPass};
-ghost use Rattle.quant_bands.specs.Question.{entryOf};
+ghost use Rattle.quant_bands.specs.Question.{countAt};
 
 // The coarse energies, with the model lent.
 fn coarse_bands(
@@ -30,8 +30,8 @@ fn coarse_bands(
     requires { ⌜ BandsIn c start end × (lm < 4) × (length (now energies) ≡ 42) × (now t ≡ energyModel) ⌝ }
     requires { ⌜ Ready 42 d ⌝ }
     ensures { λ r.
-        ⌜ going (now (energies .exit)) (r .first) (r .second) (r .next)
-        ≡ overPlaces (coarseBand c lm intra (now (s .entry))) start (end - start) (begun d (now (energies .entry))) ⌝ }
+        ⌜ coarseState (now (energies .exit)) (r .first) (r .second) (r .next)
+        ≡ overPlaces (coarseBand c lm intra (now (s .entry))) start (end - start) (coarseStart d (now (energies .entry))) ⌝ }
 {
     let mut g = Hands {
         first: 0.0,
@@ -60,19 +60,19 @@ pub fn coarse(
     requires { ⌜ BandsIn c start end × (lm < 4) × (length (now energies) ≡ 42) ⌝ }
     requires { ⌜ Ready 42 d ⌝ }
     ensures { λ r.
-        ⌜ decoded (now (energies .exit)) r ≡ coarse c lm intra start end (now (s .entry)) d (now (energies .entry)) ⌝ }
+        ⌜ energiesAfter (now (energies .exit)) r ≡ coarse c lm intra start end (now (s .entry)) d (now (energies .entry)) ⌝ }
 {
     let t = modes::energy_model::table();
     let g = coarse_bands(d, s, energies, &t, c, lm, start, end, intra);
     g.next
 }
 
-// The last bits, in the pass of a priority. Where a band's channels no longer find a bit each, no later band's do.
+// The last bits, in the pass of a priority. Where too few bits are left for a band's channels, no later band takes one.
 fn spend_pass(
     g: LeftOver,
     s: &[u8],
     energies: &mut [f32],
-    turn: u32,
+    pass: u32,
     c: u32,
     start: usize,
     end: usize,
@@ -83,12 +83,13 @@ fn spend_pass(
     requires { ⌜ Ready 42 (g .next) ⌝ }
     ensures { λ r.
         ⌜ spending (now (energies .exit)) (r .left) (r .next)
-        ≡ spendPass c turn (entryOf (now (fine .entry))) (entryOf (now (priorities .entry))) start end (now (s .entry)) (spending (now (energies .entry)) (g .left) (g .next)) ⌝ }
+        ≡ spendPass c pass (countAt (now (fine .entry))) (countAt (now (priorities .entry))) start end (now (s .entry))
+        (spending (now (energies .entry)) (g .left) (g .next)) ⌝ }
 {
     let mut y = g;
     let mut i = start;
     while (i < end) & (c <= y.left) {
-        y = spend_band(energies, fine, priorities, turn, c, i, s, y);
+        y = spend_band(energies, fine, priorities, pass, c, i, s, y);
         i += 1;
     }
     y
@@ -109,14 +110,14 @@ pub fn finalise(
     requires { ⌜ BandsIn c start end × (length (now energies) ≡ 42) × (length (now fine) ≡ 21) × (length (now priorities) ≡ 21) ⌝ }
     requires { ⌜ Ready 84 d ⌝ }
     ensures { λ r.
-        ⌜ decoded (now (energies .exit)) r
-        ≡ finalise c (entryOf (now (fine .entry))) (entryOf (now (priorities .entry))) start end left (now (s .entry)) d (now (energies .entry)) ⌝ }
+        ⌜ energiesAfter (now (energies .exit)) r
+        ≡ finalise c (countAt (now (fine .entry))) (countAt (now (priorities .entry))) start end left (now (s .entry)) d (now (energies .entry)) ⌝ }
 {
     let mut y = LeftOver { left, next: d };
-    let mut turn: u32 = 0;
-    while turn < 2 {
-        y = spend_pass(y, s, energies, turn, c, start, end, fine, priorities);
-        turn += 1;
+    let mut pass: u32 = 0;
+    while pass < 2 {
+        y = spend_pass(y, s, energies, pass, c, start, end, fine, priorities);
+        pass += 1;
     }
     y.next
 }

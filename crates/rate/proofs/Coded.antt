@@ -7,17 +7,17 @@ use mathlib.Core.Path.{_≡_}
 use lib.IntN.{ℤ}
 use Rattle.entdec.specs.declared.Reader.{Reader}
 use Rattle.entenc.specs.Write.{Wr}
-use Rattle.rate_def.specs.Answers.{allocGiven}
-use Rattle.rate_def.specs.Asked.{In, Out}
-use Rattle.rate_def.specs.Written.{written}
-use Rattle.rate_def.proofs.Trace.{trace, writing-writes}
-use Rattle.rate_def.proofs.Follow.{Agrees, follow, replay}
+use Rattle.rate_spec.specs.Answers.{allocOfFlags}
+use Rattle.rate_spec.specs.Types.{AllocIn, AllocOut}
+use Rattle.rate_spec.specs.Written.{written}
+use Rattle.rate_spec.proofs.Trace.{trace, writing-writes}
+use Rattle.rate_spec.proofs.Follow.{Agrees, follow, replay}
 use Rattle.rate_skip.specs.Asks.{readAsk, writeAsk, writeBit, writeBelow}
 use Rattle.rate.specs.Answer.{readAlloc, writeAlloc}
 
-module _ (a : In) (previous bandwidth : ℤ) (intensity : ℕ) (dual : Bool) (w : Wr) where
+module _ (a : AllocIn) (previous bandwidth : ℤ) (intensity : ℕ) (dual : Bool) (w : Wr) where
   -- what an encoder's allocation gives
-  abbrev pub out : Out
+  abbrev pub out : AllocOut
   out = writeAlloc a intensity dual previous bandwidth w .0
 
   -- the writer after it is the one that wrote its flags, then intensity and dual stereo where they are coded, and nothing else
@@ -30,10 +30,5 @@ module _ (a : In) (previous bandwidth : ℤ) (intensity : ℕ) (dual : Bool) (w 
   read-follows s d last g = follow a (writeAsk a previous bandwidth intensity dual) (readAsk s) w d last g
 
   -- and so do these flags, this intensity and this dual stereo without any coder
-  pub write-replayed : allocGiven a (out .flags) (out .intensity) (out .dual) ≡ out
+  pub write-replayed : allocOfFlags a (out .flags) (out .intensity) (out .dual) ≡ out
   write-replayed = replay a (writeAsk a previous bandwidth intensity dual) w
-
--- the same of what a decoder gives
-pub read-replayed : (a : In) (s : List ℕ) (d : Reader)
-    → allocGiven a (readAlloc a s d .0 .flags) (readAlloc a s d .0 .intensity) (readAlloc a s d .0 .dual) ≡ readAlloc a s d .0
-read-replayed a s d = replay a (readAsk s) d

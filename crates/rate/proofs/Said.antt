@@ -1,4 +1,4 @@
--- The two enums, told back from what they say: two that say the same are one. Assumes nothing.
+-- The two enums, recovered from what they say: two that say the same are one. Assumes nothing.
 use mathlib.Core.Path.{_≡_, refl}
 use Rattle.entcode.specs.Said.Said.{done, refused}
 use Rattle.entcode.specs.Said.{Said}
@@ -13,12 +13,12 @@ use Rattle.rate.specs.Answer.{saidRead, saidWrote}
 
 -- the answer of reading that says this
 abbrev pub backRead : Said ReadAllocation → AllocRead
-backRead (done y) = read.Got y
+backRead (done y) = read.Done y
 backRead (refused n) = read.Refused n
 
 -- telling it back gives the answer
 pub saidRead-back : (r : AllocRead) → backRead (saidRead r) ≡ r
-saidRead-back (read.Got y) = refl
+saidRead-back (read.Done y) = refl
 saidRead-back (read.Refused n) = refl
 
 -- two that say the same are one
@@ -27,12 +27,12 @@ saidRead-same e = alike saidRead backRead saidRead-back e
 
 -- the answer of writing that says this
 abbrev pub backWrote : Said WrittenAllocation → AllocWrote
-backWrote (done y) = wrote.Got y
+backWrote (done y) = wrote.Done y
 backWrote (refused n) = wrote.Refused n
 
 -- telling it back gives the answer
 pub saidWrote-back : (r : AllocWrote) → backWrote (saidWrote r) ≡ r
-saidWrote-back (wrote.Got y) = refl
+saidWrote-back (wrote.Done y) = refl
 saidWrote-back (wrote.Refused n) = refl
 
 -- two that say the same are one

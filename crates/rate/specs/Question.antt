@@ -4,7 +4,7 @@ use mathlib.Core.Bool.{Bool, _&&_, _||_}
 use mathlib.Core.List.{List, map}
 use lib.Dec.{eqb}
 use lib.IntN.{ℤ, pos}
-use lib.ListN.{length}
+use lib.ListN.{length, replicate}
 use lib.Signed.{ltZ, leZ}
 use Rattle.laws.specs.Lists.{every}
 use Rattle.laws.specs.Signs.{clip, inRange}
@@ -12,31 +12,26 @@ use Rattle.entdec.specs.declared.Reader.{Reader}
 use Rattle.entdec.specs.Rule.{readRefusal}
 use Rattle.entenc.specs.Write.{Wr}
 use Rattle.entenc.specs.Rule.{writeRefusal}
-use Rattle.rate_def.specs.Asked.{In}
-use Rattle.rate_bands.specs.declared.Frame.{Frame}
-use Rattle.rate_bands.specs.Frame.{inOf}
-use Rattle.rate.specs.declared.Numbers.{Numbers}
+use Rattle.rate_spec.specs.Types.{AllocIn}
+use Rattle.rate_bands.specs.declared.AllocCounts.{AllocCounts}
+use Rattle.rate_bands.specs.Inputs.{allocIn}
+use Rattle.rate.specs.declared.AllocNumbers.{AllocNumbers}
+use Rattle.rate.specs.declared.Wishes.{Wishes}
 
-abbrev pub numbers : ℤ → ℤ → ℤ → ℤ → ℤ → ℤ → Numbers
-numbers c lm start end trim total = record { c = c; lm = lm; start = start; end = end; trim = trim; total = total }
+-- the question's numbers, for calls that are handed them one by one
+abbrev pub allocNumbers : ℤ → ℤ → ℤ → ℤ → ℤ → ℤ → AllocNumbers
+allocNumbers c lm start end trim total = record { c = c; lm = lm; start = start; end = end; trim = trim; total = total }
 
 -- the numbers as counts: a negative total reads as 0, and the others are not negative where they are accepted
-unfoldable pub frameOf : Numbers → Frame
-frameOf q =
+unfoldable pub allocCounts : AllocNumbers → AllocCounts
+allocCounts q =
     record { c = clip (q .c); lm = clip (q .lm); start = clip (q .start); end = clip (q .end); trim = clip (q .trim); total = clip (q .total) }
 
 -- the definition's question: band j's boost and cap are entry j of a list
-abbrev pub allocInput : Numbers → List ℤ → List ℤ → In
-allocInput q offsets caps = inOf (frameOf q) (map clip offsets) (map clip caps)
+abbrev pub allocInput : AllocNumbers → List ℤ → List ℤ → AllocIn
+allocInput q offsets caps = allocIn (allocCounts q) (map clip offsets) (map clip caps)
 
--- what an encoder is told: the first band whose channels it wants coded as one, whether the others are apart, and what its choice of skip
--- flags leans on, the band count of the frame before and the signal's bandwidth
-pub record Wishes : Type 0 where
-  pub intensity : ℤ
-  pub dual : ℤ
-  pub previous : ℤ
-  pub bandwidth : ℤ
-
+-- an encoder's wishes, in the same way
 abbrev pub wishes : ℤ → ℤ → ℤ → ℤ → Wishes
 wishes intensity dual previous bandwidth = record { intensity = intensity; dual = dual; previous = previous; bandwidth = bandwidth }
 
@@ -46,8 +41,17 @@ pub record Lists : Type 0 where
   pub fine : List ℤ
   pub priorities : List ℤ
 
+-- the three as one
 abbrev pub lists : List ℤ → List ℤ → List ℤ → Lists
 lists pulses fine priorities = record { pulses = pulses; fine = fine; priorities = priorities }
+
+-- a list of 21 zeros: no boosts, and a list that is lent before anything is written into it
+unfoldable pub noEntries : List ℤ
+noEntries = replicate 21 (pos 0)
+
+-- three of them, lent for an answer
+abbrev pub noLists : Lists
+noLists = lists noEntries noEntries noEntries
 
 -- ---- the tests
 
@@ -56,14 +60,14 @@ abbrev pub lengthsOk : ℕ → ℕ → ℕ → ℕ → ℕ → Bool
 lengthsOk offsets caps pulses fine priorities = eqb offsets 21 && eqb caps 21 && eqb pulses 21 && eqb fine 21 && eqb priorities 21
 
 -- C 1..2, LM 0..3, 0 ≤ start < end ≤ 21, trim 0..10, total up to 81,600 (1)
-unfoldable pub numbersOk : Numbers → Bool
+unfoldable pub numbersOk : AllocNumbers → Bool
 numbersOk q =
     inRange (pos 1) (pos 2) (q .c) && inRange (pos 0) (pos 3) (q .lm) && leZ (pos 0) (q .start) && ltZ (q .start) (q .end) && leZ (q .end) (pos 21)
     && inRange (pos 0) (pos 10) (q .trim) && leZ (q .total) (pos 81600)
 
 -- with two channels, intensity is start..end and dual stereo 0 or 1; with one, any (1)
-unfoldable pub stereoOk : Numbers → ℤ → ℤ → Bool
-stereoOk q intensity dual = leZ (q .c) (pos 1) || inRange (q .start) (q .end) intensity && inRange (pos 0) (pos 1) dual
+unfoldable pub stereoOk : AllocNumbers → Wishes → Bool
+stereoOk q h = leZ (q .c) (pos 1) || inRange (q .start) (q .end) (h .intensity) && inRange (pos 0) (pos 1) (h .dual)
 
 -- offsets 0..81,600 and caps 0..32,767, each list whole (3)
 abbrev pub entriesOk : List ℤ → List ℤ → Bool
@@ -71,7 +75,8 @@ entriesOk offsets caps = every (inRange (pos 0) (pos 81600)) offsets && every (i
 
 -- ---- the numbers of the refusals, 0 for none
 
-module _ (q : Numbers) (offsets caps : List ℤ) (l : Lists) where
+module _ (q : AllocNumbers) (offsets caps : List ℤ) (l : Lists) where
+  -- the five lists of a call have 21 entries each
   abbrev pub sized : Bool
   sized = lengthsOk (length offsets) (length caps) (length (l .pulses)) (length (l .fine)) (length (l .priorities))
 
@@ -82,4 +87,4 @@ module _ (q : Numbers) (offsets caps : List ℤ) (l : Lists) where
   -- of writing
   unfoldable pub refusalWrite : Wishes → Wr → ℕ
   refusalWrite h w =
-      writeRefusal (length (w .bytes)) (w .st) sized (numbersOk q && stereoOk q (h .intensity) (h .dual)) (entriesOk offsets caps) 0
+      writeRefusal (length (w .bytes)) (w .st) sized (numbersOk q && stereoOk q h) (entriesOk offsets caps) 0

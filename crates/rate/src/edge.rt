@@ -1,24 +1,25 @@
 // From i32, as a call is handed it, to counts, as the work has it, and back.
-use super::Numbers;
+use super::AllocNumbers;
 use super::ReadAllocation;
 use super::WrittenAllocation;
 use entdec::Reader;
 use entenc::Writer;
 use laws::clipped;
-use rate_bands::Frame;
+use rate_bands::AllocCounts;
+use rate_split::bands::signed;
 ghost use mathlib.Core.Path.{_≡_};
 ghost use mathlib.Core.List.{map};
 ghost use mathlib.Core.Bool.{cond};
-ghost use Prim.Native.Nat.{_≤_, _<_};
+ghost use Prim.Native.Nat.{_≤_};
 ghost use lib.IntN.{pos};
 ghost use lib.ListN.{length};
 ghost use Rattle.laws.specs.Signs.{clip};
-ghost use Rattle.rate.specs.Question.{frameOf};
+ghost use Rattle.rate.specs.Question.{allocCounts};
 ghost use Rattle.rate.specs.Answer.{readNumbers, writtenNumbers};
 
 // The numbers as counts.
-pub fn frame_of(q: Numbers) -> Frame
-    ensures { λ r. ⌜ r ≡ frameOf q ⌝ }
+pub fn alloc_counts(q: AllocNumbers) -> AllocCounts
+    ensures { λ r. ⌜ r ≡ allocCounts q ⌝ }
 {
     let c = clipped(q.c);
     let lm = clipped(q.lm);
@@ -26,7 +27,7 @@ pub fn frame_of(q: Numbers) -> Frame
     let end = clipped(q.end) as usize;
     let trim = clipped(q.trim);
     let total = clipped(q.total);
-    Frame {
+    AllocCounts {
         c,
         lm,
         start,
@@ -34,13 +35,6 @@ pub fn frame_of(q: Numbers) -> Frame
         trim,
         total,
     }
-}
-
-// A number as a place: a negative one reads as 0.
-pub fn place_of(z: i32) -> usize
-    ensures { λ r. ⌜ r ≡ clip z ⌝ }
-{
-    clipped(z) as usize
 }
 
 // A list's entries as counts.
@@ -58,14 +52,6 @@ pub fn counts_of(l: &[i32]) -> [u32; 21]
     out
 }
 
-// A count as the answer has it.
-fn signed(n: u32) -> i32
-    requires { ⌜ n < 2147483648 ⌝ }
-    ensures { λ r. ⌜ r ≡ pos n ⌝ }
-{
-    n as i32
-}
-
 // A flag as the answer has it.
 fn flag_of(yes: bool) -> i32
     ensures { λ r. ⌜ r ≡ pos (cond yes 1 0) ⌝ }
@@ -74,7 +60,7 @@ fn flag_of(yes: bool) -> i32
 }
 
 // The numbers of an allocation that was read, as the answer has them.
-pub fn shown_read(
+pub fn read_figures(
     coded: usize,
     balance: u32,
     intensity: usize,
@@ -94,7 +80,7 @@ pub fn shown_read(
 }
 
 // The numbers of an allocation that was written.
-pub fn shown_written(
+pub fn written_figures(
     coded: usize,
     balance: u32,
     intensity: usize,

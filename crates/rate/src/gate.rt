@@ -1,5 +1,6 @@
-// What an allocation is refused with, as far as it is the call's own: document 01, "Domain in numbers".
-use super::Numbers;
+// What an allocation is refused with, by its numbers and lists: document 01, "Domain in numbers".
+use super::AllocNumbers;
+use super::Wishes;
 use entdec::Reader;
 use entenc::Writer;
 use laws::in_range;
@@ -25,7 +26,7 @@ pub fn lengths_ok(
 }
 
 // C 1..2, LM 0..3, 0 ≤ start < end ≤ 21, trim 0..10, total up to 81,600.
-pub fn numbers_ok(q: Numbers) -> bool
+pub fn numbers_ok(q: AllocNumbers) -> bool
     ensures { λ r. ⌜ r ≡ numbersOk q ⌝ }
 {
     in_range(q.c, 1, 2)
@@ -38,10 +39,10 @@ pub fn numbers_ok(q: Numbers) -> bool
 }
 
 // With two channels, intensity is start..end and dual stereo 0 or 1.
-pub fn stereo_ok(q: Numbers, intensity: i32, dual: i32) -> bool
-    ensures { λ r. ⌜ r ≡ stereoOk q intensity dual ⌝ }
+pub fn stereo_ok(q: AllocNumbers, h: Wishes) -> bool
+    ensures { λ r. ⌜ r ≡ stereoOk q h ⌝ }
 {
-    (q.c <= 1) | (in_range(intensity, q.start, q.end) & in_range(dual, 0, 1))
+    (q.c <= 1) | (in_range(h.intensity, q.start, q.end) & in_range(h.dual, 0, 1))
 }
 
 // Offsets 0..81,600 and caps 0..32,767, each list whole.
@@ -55,14 +56,15 @@ pub fn entries_ok(offsets: &[i32], caps: &[i32]) -> bool
 pub fn refusal_read(
     d: Reader,
     bytes: usize,
-    q: Numbers,
+    q: AllocNumbers,
     offsets: &[i32],
     caps: &[i32],
     pulses: usize,
     fine: usize,
     priorities: usize,
 ) -> u32
-    ensures { λ r. ⌜ r ≡ readRefusal bytes d (lengthsOk (length (now (offsets .entry))) (length (now (caps .entry))) pulses fine priorities) (numbersOk q) (entriesOk (now (offsets .entry)) (now (caps .entry))) 0 ⌝ }
+    ensures { λ r. ⌜ r ≡ readRefusal bytes d (lengthsOk (length (now (offsets .entry))) (length (now (caps .entry))) pulses fine priorities) (numbersOk q)
+        (entriesOk (now (offsets .entry)) (now (caps .entry))) 0 ⌝ }
 {
     let lengths = lengths_ok(offsets.len(), caps.len(), pulses, fine, priorities);
     if d.sized(bytes, lengths) {
@@ -77,21 +79,21 @@ pub fn refusal_read(
 pub fn refusal_write(
     w: Writer,
     bytes: usize,
-    q: Numbers,
-    intensity: i32,
-    dual: i32,
+    q: AllocNumbers,
+    h: Wishes,
     offsets: &[i32],
     caps: &[i32],
     pulses: usize,
     fine: usize,
     priorities: usize,
 ) -> u32
-    ensures { λ r. ⌜ r ≡ writeRefusal bytes w (lengthsOk (length (now (offsets .entry))) (length (now (caps .entry))) pulses fine priorities) (numbersOk q && stereoOk q intensity dual) (entriesOk (now (offsets .entry)) (now (caps .entry))) 0 ⌝ }
+    ensures { λ r. ⌜ r ≡ writeRefusal bytes w (lengthsOk (length (now (offsets .entry))) (length (now (caps .entry))) pulses fine priorities)
+        (numbersOk q && stereoOk q h) (entriesOk (now (offsets .entry)) (now (caps .entry))) 0 ⌝ }
 {
     let lengths = lengths_ok(offsets.len(), caps.len(), pulses, fine, priorities);
     if w.sized(bytes, lengths) {
         let known = numbers_ok(q);
-        let stereo = stereo_ok(q, intensity, dual);
+        let stereo = stereo_ok(q, h);
         let entries = entries_ok(offsets, caps);
         return w.refusal(bytes, lengths, known & stereo, entries, 0);
     }

@@ -6,20 +6,30 @@ pub mod work;
 
 ghost use mathlib.Core.Path.{_≡_};
 ghost use Rattle.entenc.specs.Write.{wr};
-ghost use Rattle.rate.specs.Question.{lists, numbers, wishes};
-ghost use Rattle.rate.specs.Answer.{afterRead, afterWritten, reading, writing};
+ghost use Rattle.rate.specs.Question.{lists};
+ghost use Rattle.rate.specs.Answer.{afterRead, afterWrite, reading, writing};
 use entdec::Reader;
 use entenc::Writer;
+use laws::clipped;
 use rate_bands::Reserves;
 
 // The numbers of a call as they are handed in: channels, frame size, the bands start..end-1, the trim, and the total in eighth bits.
-pub struct Numbers {
+pub struct AllocNumbers {
     pub c: i32,
     pub lm: i32,
     pub start: i32,
     pub end: i32,
     pub trim: i32,
     pub total: i32,
+}
+
+// What an encoder wishes: the first band whose channels it wants coded as one, whether the bands below it are coded apart (1), and what its choice
+// of skip flags depends on: the band count of the frame before and the signal's bandwidth.
+pub struct Wishes {
+    pub intensity: i32,
+    pub dual: i32,
+    pub previous: i32,
+    pub bandwidth: i32,
 }
 
 // What reading gives beside the lists: how many bands are coded, what the last of them hands on, the first band whose channels are coded as
@@ -43,13 +53,13 @@ pub struct WrittenAllocation {
 
 // What reading answers: the allocation, or the number of the refusal.
 pub enum AllocRead {
-    Got(ReadAllocation),
+    Done(ReadAllocation),
     Refused(u32),
 }
 
 // What writing answers.
 pub enum AllocWrote {
-    Got(WrittenAllocation),
+    Done(WrittenAllocation),
     Refused(u32),
 }
 
@@ -64,12 +74,7 @@ pub struct Begun {
 pub fn clt_compute_allocation_read(
     d: Reader,
     s: &[u8],
-    c: i32,
-    lm: i32,
-    start: i32,
-    end: i32,
-    trim: i32,
-    total: i32,
+    q: AllocNumbers,
     offsets: &[i32],
     caps: &[i32],
     pulses: &mut [i32],
@@ -78,16 +83,9 @@ pub fn clt_compute_allocation_read(
 ) -> AllocRead
     ensures { λ r.
         ⌜ afterRead r (lists (now (pulses .exit)) (now (fine .exit)) (now (priorities .exit)))
-        ≡ reading (numbers c lm start end trim total) (now (offsets .entry)) (now (caps .entry)) (now (s .entry)) d (lists (now (pulses .entry)) (now (fine .entry)) (now (priorities .entry))) ⌝ }
+        ≡ reading q (now (offsets .entry)) (now (caps .entry)) (now (s .entry)) d
+        (lists (now (pulses .entry)) (now (fine .entry)) (now (priorities .entry))) ⌝ }
 {
-    let q = Numbers {
-        c,
-        lm,
-        start,
-        end,
-        trim,
-        total,
-    };
     let no = gate::refusal_read(
         d,
         s.len(),
@@ -99,11 +97,20 @@ pub fn clt_compute_allocation_read(
         priorities.len(),
     );
     if no == 0 {
-        let f = edge::frame_of(q);
-        let offs = edge::counts_of(offsets);
-        let most = edge::counts_of(caps);
-        let y = work::read(f, d, s, &offs, &most, pulses, fine, priorities);
-        AllocRead::Got(y)
+        let f = edge::alloc_counts(q);
+        let offset_counts = edge::counts_of(offsets);
+        let cap_counts = edge::counts_of(caps);
+        let y = work::read(
+            f,
+            d,
+            s,
+            &offset_counts,
+            &cap_counts,
+            pulses,
+            fine,
+            priorities,
+        );
+        AllocRead::Done(y)
     } else {
         AllocRead::Refused(no)
     }
@@ -113,16 +120,8 @@ pub fn clt_compute_allocation_read(
 pub fn clt_compute_allocation_write(
     w: Writer,
     buf: &mut [u8],
-    c: i32,
-    lm: i32,
-    start: i32,
-    end: i32,
-    trim: i32,
-    total: i32,
-    intensity: i32,
-    dual: i32,
-    previous: i32,
-    bandwidth: i32,
+    q: AllocNumbers,
+    h: Wishes,
     offsets: &[i32],
     caps: &[i32],
     pulses: &mut [i32],
@@ -130,23 +129,15 @@ pub fn clt_compute_allocation_write(
     priorities: &mut [i32],
 ) -> AllocWrote
     ensures { λ r.
-        ⌜ afterWritten r (lists (now (pulses .exit)) (now (fine .exit)) (now (priorities .exit))) (now (buf .exit))
-        ≡ writing (numbers c lm start end trim total) (wishes intensity dual previous bandwidth) (now (offsets .entry)) (now (caps .entry)) (wr w (now (buf .entry))) (lists (now (pulses .entry)) (now (fine .entry)) (now (priorities .entry))) ⌝ }
+        ⌜ afterWrite r (lists (now (pulses .exit)) (now (fine .exit)) (now (priorities .exit))) (now (buf .exit))
+        ≡ writing q h (now (offsets .entry)) (now (caps .entry))
+        (wr w (now (buf .entry))) (lists (now (pulses .entry)) (now (fine .entry)) (now (priorities .entry))) ⌝ }
 {
-    let q = Numbers {
-        c,
-        lm,
-        start,
-        end,
-        trim,
-        total,
-    };
     let no = gate::refusal_write(
         w,
         buf.len(),
         q,
-        intensity,
-        dual,
+        h,
         offsets,
         caps,
         pulses.len(),
@@ -154,25 +145,25 @@ pub fn clt_compute_allocation_write(
         priorities.len(),
     );
     if no == 0 {
-        let f = edge::frame_of(q);
-        let offs = edge::counts_of(offsets);
-        let most = edge::counts_of(caps);
-        let first = edge::place_of(intensity);
+        let f = edge::alloc_counts(q);
+        let offset_counts = edge::counts_of(offsets);
+        let cap_counts = edge::counts_of(caps);
+        let first = clipped(h.intensity) as usize;
         let y = work::write(
             f,
             first,
-            0 < dual,
-            previous,
-            bandwidth,
+            0 < h.dual,
+            h.previous,
+            h.bandwidth,
             w,
             buf,
-            &offs,
-            &most,
+            &offset_counts,
+            &cap_counts,
             pulses,
             fine,
             priorities,
         );
-        AllocWrote::Got(y)
+        AllocWrote::Done(y)
     } else {
         AllocWrote::Refused(no)
     }

@@ -6,7 +6,7 @@ use crate::begin::begin;
 use crate::edge;
 use entdec::Reader;
 use entenc::Writer;
-use rate_bands::Frame;
+use rate_bands::AllocCounts;
 use rate_skip::figures::left_of;
 use rate_skip::reading;
 use rate_skip::writing;
@@ -16,31 +16,33 @@ ghost use lib.ListN.{length};
 ghost use Rattle.entdec.specs.Ready as reader;
 ghost use Rattle.entenc.specs.Ready as writer;
 ghost use Rattle.entenc.specs.Write.{wr};
-ghost use Rattle.rate_bands.specs.Frame.{inOf, FrameIn, ListsIn};
+ghost use Rattle.rate_bands.specs.Inputs.{allocIn, AllocCountsOk, AllocListsOk};
 ghost use Rattle.rate.specs.Question.{lists};
-ghost use Rattle.rate.specs.Answer.{listsOf, readAlloc, readShown, writeAlloc, writtenShown};
+ghost use Rattle.rate.specs.Answer.{listsOf, readAlloc, readFigures, writeAlloc, writtenFigures};
 
 // Reads an allocation from the packet s.
 pub fn read(
-    f: Frame,
+    f: AllocCounts,
     d: Reader,
     s: &[u8],
-    offs: &[u32; 21],
+    offsets: &[u32; 21],
     caps: &[u32; 21],
     pulses: &mut [i32],
     fine: &mut [i32],
     priorities: &mut [i32],
 ) -> ReadAllocation
-    requires { ⌜ FrameIn f × ListsIn (now offs) (now caps) × reader.Ready 22 d ⌝ }
+    requires { ⌜ AllocCountsOk f × AllocListsOk (now offsets) (now caps) × reader.Ready 22 d ⌝ }
     requires { ⌜ (length (now pulses) ≡ 21) × (length (now fine) ≡ 21) × (length (now priorities) ≡ 21) ⌝ }
     ensures { λ r.
-        ⌜ (r ≡ readShown (readAlloc (inOf f (now (offs .entry)) (now (caps .entry))) (now (s .entry)) d))
+        ⌜ (r ≡ readFigures (readAlloc (allocIn f (now (offsets .entry)) (now (caps .entry))) (now (s .entry)) d))
         × (lists (now (pulses .exit)) (now (fine .exit)) (now (priorities .exit))
-        ≡ listsOf (inOf f (now (offs .entry)) (now (caps .entry))) (readAlloc (inOf f (now (offs .entry)) (now (caps .entry))) (now (s .entry)) d .0) (lists (now (pulses .entry)) (now (fine .entry)) (now (priorities .entry)))) ⌝ }
+        ≡ listsOf (allocIn f (now (offsets .entry)) (now (caps .entry)))
+        (readAlloc (allocIn f (now (offsets .entry)) (now (caps .entry))) (now (s .entry)) d .0)
+        (lists (now (pulses .entry)) (now (fine .entry)) (now (priorities .entry)))) ⌝ }
 {
     let mut bits = [0u32; 21];
     let mut kept = [0u32; 21];
-    let b = begin(f, offs, caps, &mut bits);
+    let b = begin(f, offsets, caps, &mut bits);
     let k = b.reserves;
     let skipped = reading::skip_read(f, &bits, b.low, b.left, k.intensity, s, d, &mut kept);
     let coded = skipped.coded;
@@ -64,35 +66,38 @@ pub fn read(
         fine,
         priorities,
     );
-    edge::shown_read(coded, balance, band, dual.yes, next)
+    edge::read_figures(coded, balance, band, dual.yes, next)
 }
 
 // Writes an allocation with this intensity, if it is no more than the coded bands, and this dual stereo, where they are coded.
 pub fn write(
-    f: Frame,
+    f: AllocCounts,
     intensity: usize,
     dual: bool,
     previous: i32,
     bandwidth: i32,
     w: Writer,
     buf: &mut [u8],
-    offs: &[u32; 21],
+    offsets: &[u32; 21],
     caps: &[u32; 21],
     pulses: &mut [i32],
     fine: &mut [i32],
     priorities: &mut [i32],
 ) -> WrittenAllocation
-    requires { ⌜ FrameIn f × ListsIn (now offs) (now caps) × writer.Ready 22 (wr w (now buf)) ⌝ }
+    requires { ⌜ AllocCountsOk f × AllocListsOk (now offsets) (now caps) × writer.Ready 22 (wr w (now buf)) ⌝ }
     requires { ⌜ (length (now pulses) ≡ 21) × (length (now fine) ≡ 21) × (length (now priorities) ≡ 21) ⌝ }
     ensures { λ r.
-        ⌜ (r ≡ writtenShown (writeAlloc (inOf f (now (offs .entry)) (now (caps .entry))) intensity dual previous bandwidth (wr w (now (buf .entry)))))
-        × (now (buf .exit) ≡ writeAlloc (inOf f (now (offs .entry)) (now (caps .entry))) intensity dual previous bandwidth (wr w (now (buf .entry))) .1 .bytes)
+        ⌜ (r ≡ writtenFigures (writeAlloc (allocIn f (now (offsets .entry)) (now (caps .entry))) intensity dual previous bandwidth (wr w (now (buf .entry)))))
+        × (now (buf .exit) ≡ writeAlloc (allocIn f (now (offsets .entry)) (now (caps .entry))) intensity dual previous bandwidth
+        (wr w (now (buf .entry))) .1 .bytes)
         × (lists (now (pulses .exit)) (now (fine .exit)) (now (priorities .exit))
-        ≡ listsOf (inOf f (now (offs .entry)) (now (caps .entry))) (writeAlloc (inOf f (now (offs .entry)) (now (caps .entry))) intensity dual previous bandwidth (wr w (now (buf .entry))) .0) (lists (now (pulses .entry)) (now (fine .entry)) (now (priorities .entry)))) ⌝ }
+        ≡ listsOf (allocIn f (now (offsets .entry)) (now (caps .entry)))
+        (writeAlloc (allocIn f (now (offsets .entry)) (now (caps .entry))) intensity dual previous bandwidth (wr w (now (buf .entry))) .0)
+        (lists (now (pulses .entry)) (now (fine .entry)) (now (priorities .entry)))) ⌝ }
 {
     let mut bits = [0u32; 21];
     let mut kept = [0u32; 21];
-    let b = begin(f, offs, caps, &mut bits);
+    let b = begin(f, offsets, caps, &mut bits);
     let k = b.reserves;
     let skipped = writing::skip_write(
         f,
@@ -127,5 +132,5 @@ pub fn write(
         fine,
         priorities,
     );
-    edge::shown_written(coded, balance, band, apart.yes, next)
+    edge::written_figures(coded, balance, band, apart.yes, next)
 }

@@ -5,20 +5,23 @@ use mathlib.Core.Path.{_≡_, _∙_}
 use native.Mathlib.Omega.{arith}
 use lib.Dec.{eqb}
 use borrow.Author.Tests.{eq-eqb, ne-eqb}
-use Rattle.rate_def.specs.Asked.{In}
-use Rattle.rate_def.specs.Skips.{lastBoost}
-use Rattle.rate_def.proofs.Loops.{boost-up}
+use Rattle.rate_spec.specs.Types.{AllocIn}
+use Rattle.rate_spec.specs.Skips.{lastBoost}
+use Rattle.rate_spec.proofs.Loops.{boost-up}
 
-module _ (a : In) (j : ℕ) (h : a .start < j) where
+module _ (a : AllocIn) (j : ℕ) (h : a .start < j) where
   boost-down : lastBoost a (j - a .start) ≡ cond (eqb (a .offset (j - 1)) 0) (lastBoost a (j - 1 - a .start)) (j - 1)
   boost-down = let e : j - 1 + 1 ≡ j = omega arith in rw e at (boost-up a (j - 1) (omega arith))
 
+  -- the band below j is boosted
   pub boost-here : 0 < a .offset (j - 1) → lastBoost a (j - a .start) ≡ j - 1
   boost-here g = boost-down ∙ rw (ne-eqb (a .offset (j - 1)) 0 (λ e. omega arith))
 
+  -- it is not
   pub boost-below : a .offset (j - 1) ≤ 0 → lastBoost a (j - a .start) ≡ lastBoost a (j - 1 - a .start)
   boost-below g = boost-down ∙ rw (eq-eqb (a .offset (j - 1)) 0 (omega arith))
 
-pub boost-none : (a : In) (j : ℕ) → j ≤ a .start → lastBoost a (j - a .start) ≡ a .start
+-- no band is left: it is the first
+pub boost-none : (a : AllocIn) (j : ℕ) → j ≤ a .start → lastBoost a (j - a .start) ≡ a .start
 unfolding lastBoost
 boost-none a j h = let e : j - a .start ≡ 0 = omega arith in rw e

@@ -1,29 +1,49 @@
 // One band's figures. Band j has w coefficients at LM 0; a caller reads the width once and hands it on.
-use crate::Frame;
-use laws::less;
+use crate::AllocCounts;
 use laws::max32;
 use laws::pow2;
+use laws::saturating_sub;
 use modes::vectors::step_in;
 ghost use mathlib.Core.Path.{_≡_};
 ghost use Prim.Native.Nat.{_+_, _≤_, _<_};
 ghost use Rattle.modes.specs.Edges.{width};
 ghost use Rattle.modes.specs.Vectors.{vectors};
-ghost use Rattle.rate_def.specs.Vectors.{threshold, slope, trimUp, trimDown, trimmed, lowBits, highBits};
-ghost use Rattle.rate_bands.specs.Frame.{bare, inOf, FrameIn, ListsIn};
+ghost use Rattle.rate_spec.specs.Reserves.{allocFloor};
+ghost use Rattle.rate_spec.specs.Trials.{floored};
+ghost use Rattle.rate_spec.specs.Vectors.{threshold, slope, trimUp, trimDown, trimmed, lowerBits, upperBits};
+ghost use Rattle.rate_bands.specs.Inputs.{bare, allocIn, AllocCountsOk, AllocListsOk};
 ghost use Rattle.rate_bands.specs.Tilts.{scale, Tilt};
 
+// A bit for each channel.
+pub fn floor_of(f: AllocCounts) -> u32
+    requires { ⌜ AllocCountsOk f ⌝ }
+    ensures { λ r. ⌜ (r ≡ allocFloor (bare f)) × (r ≤ 16) ⌝ }
+{
+    8 * f.c
+}
+
+// A floor of x bits that have one, else nothing.
+pub fn floored_of(f: AllocCounts, x: u32) -> u32
+    requires { ⌜ AllocCountsOk f ⌝ }
+    ensures { λ r. ⌜ (r ≡ floored (bare f) x) × (r ≤ x) × (r ≤ 16) ⌝ }
+{
+    let floor = floor_of(f);
+    if floor <= x { floor } else { 0 }
+}
+
 // Below it band j is not worth coding.
-pub fn threshold_of(f: Frame, j: usize, w: u32) -> u32
-    requires { ⌜ FrameIn f × (w ≡ width j) ⌝ }
+pub fn threshold_of(f: AllocCounts, j: usize, w: u32) -> u32
+    requires { ⌜ AllocCountsOk f × (w ≡ width j) ⌝ }
     ensures { λ r. ⌜ r ≡ threshold (bare f) j ⌝ }
 {
+    let floor = floor_of(f);
     let p = pow2(f.lm);
-    max32(8 * f.c, 3 * w * p * 8 / 16)
+    max32(floor, 3 * w * p * 8 / 16)
 }
 
 // What a step of an allocation vector is multiplied by, and divided by 4, to give bits.
-pub fn scale_of(f: Frame, j: usize, w: u32) -> u32
-    requires { ⌜ FrameIn f × (w ≡ width j) ⌝ }
+pub fn scale_of(f: AllocCounts, j: usize, w: u32) -> u32
+    requires { ⌜ AllocCountsOk f × (w ≡ width j) ⌝ }
     ensures { λ r. ⌜ r ≡ scale (bare f) j ⌝ }
 {
     let p = pow2(f.lm);
@@ -31,8 +51,8 @@ pub fn scale_of(f: Frame, j: usize, w: u32) -> u32
 }
 
 // What a step of the trim tilts band j by, in 64ths.
-pub fn slope_of(f: Frame, j: usize, w: u32) -> u32
-    requires { ⌜ FrameIn f × (j < f .end) × (w ≡ width j) ⌝ }
+pub fn slope_of(f: AllocCounts, j: usize, w: u32) -> u32
+    requires { ⌜ AllocCountsOk f × (j < f .end) × (w ≡ width j) ⌝ }
     ensures { λ r. ⌜ r ≡ slope (bare f) j ⌝ }
 {
     let p = pow2(f.lm + 3);
@@ -41,40 +61,40 @@ pub fn slope_of(f: Frame, j: usize, w: u32) -> u32
 }
 
 // The trim's part upwards, of a band with slope s.
-pub fn up_of(f: Frame, j: usize, s: u32) -> u32
-    requires { ⌜ FrameIn f × (s ≡ slope (bare f) j) ⌝ }
+pub fn up_of(f: AllocCounts, j: usize, s: u32) -> u32
+    requires { ⌜ AllocCountsOk f × (s ≡ slope (bare f) j) ⌝ }
     ensures { λ r. ⌜ r ≡ trimUp (bare f) j ⌝ }
 {
-    let d = less(f.trim, 5 + f.lm);
+    let d = saturating_sub(f.trim, 5 + f.lm);
     s * d / 64
 }
 
 // The part downwards, and the floor of a single coefficient.
-pub fn down_of(f: Frame, j: usize, w: u32, s: u32) -> u32
-    requires { ⌜ FrameIn f × (w ≡ width j) × (s ≡ slope (bare f) j) ⌝ }
+pub fn down_of(f: AllocCounts, j: usize, w: u32, s: u32) -> u32
+    requires { ⌜ AllocCountsOk f × (w ≡ width j) × (s ≡ slope (bare f) j) ⌝ }
     ensures { λ r. ⌜ r ≡ trimDown (bare f) j ⌝ }
 {
-    let d = less(5 + f.lm, f.trim);
+    let d = saturating_sub(5 + f.lm, f.trim);
     let m = (s * d + 63) / 64;
     let p = pow2(f.lm);
-    if w * p == 1 { m + 8 * f.c } else { m }
+    if w * p == 1 { m + floor_of(f) } else { m }
 }
 
 // x bits of band j after the trim.
-pub fn trimmed_of(f: Frame, j: usize, x: u32, up: u32, down: u32) -> u32
-    requires { ⌜ FrameIn f × (x ≤ 32767) × (up ≡ trimUp (bare f) j) × (down ≡ trimDown (bare f) j) ⌝ }
+pub fn trimmed_of(f: AllocCounts, j: usize, x: u32, up: u32, down: u32) -> u32
+    requires { ⌜ AllocCountsOk f × (x ≤ 32767) × (up ≡ trimUp (bare f) j) × (down ≡ trimDown (bare f) j) ⌝ }
     ensures { λ r. ⌜ r ≡ trimmed (bare f) x j ⌝ }
 {
     if x == 0 {
         return 0;
     }
-    less(x + up, down)
+    saturating_sub(x + up, down)
 }
 
 // Vector v's bits for band j as the lower one of two.
 pub fn low_of(
-    f: Frame,
-    offs: &[u32; 21],
+    f: AllocCounts,
+    offsets: &[u32; 21],
     caps: &[u32; 21],
     steps: &[u8],
     v: usize,
@@ -83,21 +103,21 @@ pub fn low_of(
     up: u32,
     down: u32,
 ) -> u32
-    requires { ⌜ FrameIn f × ListsIn (now offs) (now caps) × (now steps ≡ vectors) × (v < 11) × (j < f .end) × Tilt (bare f) j scale up down ⌝ }
-    ensures { λ r. ⌜ r ≡ lowBits (inOf f (now (offs .entry)) (now (caps .entry))) v j ⌝ }
+    requires { ⌜ AllocCountsOk f × AllocListsOk (now offsets) (now caps) × (now steps ≡ vectors) × (v < 11) × (j < f .end) × Tilt (bare f) j scale up down ⌝ }
+    ensures { λ r. ⌜ r ≡ lowerBits (allocIn f (now (offsets .entry)) (now (caps .entry))) v j ⌝ }
 {
     let s = step_in(steps, v, j);
     let x = trimmed_of(f, j, scale * s / 4, up, down);
     if v == 0 {
         return x;
     }
-    x + offs[j]
+    x + offsets[j]
 }
 
 // The bits for band j of the vector after v, as the upper one of two.
 pub fn high_of(
-    f: Frame,
-    offs: &[u32; 21],
+    f: AllocCounts,
+    offsets: &[u32; 21],
     caps: &[u32; 21],
     steps: &[u8],
     v: usize,
@@ -106,12 +126,12 @@ pub fn high_of(
     up: u32,
     down: u32,
 ) -> u32
-    requires { ⌜ FrameIn f × ListsIn (now offs) (now caps) × (now steps ≡ vectors) × (v < 11) × (j < f .end) × Tilt (bare f) j scale up down ⌝ }
-    ensures { λ r. ⌜ r ≡ highBits (inOf f (now (offs .entry)) (now (caps .entry))) (v + 1) j ⌝ }
+    requires { ⌜ AllocCountsOk f × AllocListsOk (now offsets) (now caps) × (now steps ≡ vectors) × (v < 11) × (j < f .end) × Tilt (bare f) j scale up down ⌝ }
+    ensures { λ r. ⌜ r ≡ upperBits (allocIn f (now (offsets .entry)) (now (caps .entry))) (v + 1) j ⌝ }
 {
     if v == 10 {
-        return trimmed_of(f, j, caps[j], up, down) + offs[j];
+        return trimmed_of(f, j, caps[j], up, down) + offsets[j];
     }
     let s = step_in(steps, v + 1, j);
-    trimmed_of(f, j, scale * s / 4, up, down) + offs[j]
+    trimmed_of(f, j, scale * s / 4, up, down) + offsets[j]
 }

@@ -1,12 +1,12 @@
-// What is reserved before bits are shared: document 01, "Budget".
-use crate::Frame;
+// What is reserved before bits are shared: document 01, "Allocation".
+use crate::AllocCounts;
 use crate::Reserves;
 use modes::fractions::fraction_of;
 ghost use mathlib.Core.Path.{_≡_};
 ghost use mathlib.Core.Bool.{cond};
 ghost use Prim.Native.Nat.{_≤_};
 ghost use lib.Dec.{leb};
-ghost use Rattle.rate_bands.specs.Frame.{bare, FrameIn};
+ghost use Rattle.rate_bands.specs.Inputs.{bare, AllocCountsOk};
 ghost use Rattle.rate_bands.specs.Reserved.{Reserved};
 
 // A bit, where the rest pays for one.
@@ -17,8 +17,8 @@ pub fn bit_of(rest: u32) -> u32
 }
 
 // The skip flag comes first; with two channels the intensity parameter, if it fits, and then the dual stereo flag.
-pub fn reserves_of(f: Frame) -> Reserves
-    requires { ⌜ FrameIn f ⌝ }
+pub fn reserves_of(f: AllocCounts) -> Reserves
+    requires { ⌜ AllocCountsOk f ⌝ }
     ensures { λ r. ⌜ Reserved (bare f) r ⌝ }
 {
     let skip = bit_of(f.total);

@@ -4,9 +4,9 @@ pub mod band;
 pub mod budget;
 pub mod lists;
 
-// All that an allocation is asked but its two lists: channels, frame size, the bands start..end-1, the trim, and the total, in which
-// a negative number was read as 0.
-pub struct Frame {
+// All that an allocation is asked except its two lists: channels, frame size, the bands start..end-1, the trim, and the total, in which a
+// negative number was read as 0.
+pub struct AllocCounts {
     pub c: u32,
     pub lm: u32,
     pub start: usize,

@@ -9,9 +9,9 @@ use lib.Dec.{leb}
 use lib.IntN.{pos}
 use borrow.Author.Tests.{lt-ltb, le-ltb, le-leb, lt-leb}
 use Rattle.laws.proofs.Tests.{by-le}
-use Rattle.modes.specs.CacheBits.{rowLength, Row}
+use Rattle.modes.specs.CacheBits.{rowLength, CacheRow}
 use Rattle.rate_cache.specs.Nearest.{low, high, nearer, nearest}
-use Rattle.rate_cache.specs.Rows.{entryOf, pulsesFor, bitsFor}
+use Rattle.rate_cache.specs.Rows.{signedEntry, pulsesFor, bitsFor}
 use Rattle.rate_cache.proofs.Near.{low-is, high-is}
 use Rattle.rate_cache.proofs.Costs.{cost-le, figure, below, at-least, near-is}
 
@@ -25,35 +25,42 @@ pub record Between (start bits lo hi : ℕ) : Type 0 where
 
 -- one of them comes to a place between them, by what that costs
 module _ (start bits lo hi mid : ℕ) (w : Between start bits lo hi) (above : lo ≤ mid) (under : mid ≤ hi) (some : 1 ≤ mid) where
+  -- what costs less than the bits is the new lower one
   pub low-up : bitsFor start mid < bits → Between start bits mid hi
   low-up h = record { some = w .some; order = under; inside = w .inside; low-side = inr h; high-side = w .high-side }
 
+  -- what costs no less is the new upper one
   pub high-down : bits ≤ bitsFor start mid → Between start bits lo mid
   high-down h = record { some = some; order = above; inside = omega (arith, w .inside); low-side = w .low-side; high-side = inr h }
 
 -- they have met, or stand next to each other
-module _ (start bits lo hi : ℕ) (r : Row start) (w : Between start bits lo hi) (close : hi ≤ lo + 1) where
+module _ (start bits lo hi : ℕ) (r : CacheRow start) (w : Between start bits lo hi) (close : hi ≤ lo + 1) where
+  -- what an index costs
   abbrev cost : ℕ → ℕ
   cost = bitsFor start
 
+  -- the last index
   abbrev len : ℕ
   len = rowLength start
 
+  -- `low` at the figure
   abbrev lowest : ℕ → ℕ
-  lowest = low (entryOf start) (figure start bits)
+  lowest = low (signedEntry start) (figure start bits)
 
+  -- `high` at the figure
   abbrev highest : ℕ → ℕ → ℕ
-  highest = high (entryOf start) (figure start bits)
+  highest = high (signedEntry start) (figure start bits)
 
   -- low and high, where their costs are known
   low-at : (x : ℕ) → x ≤ len → (x ≡ 0) ⊎ (cost x < bits) → ((i : ℕ) → x < i → i ≤ len → bits ≤ cost i) → lowest len ≡ x
   low-at x h z above =
-      low-is (entryOf start) (figure start bits) len x h (⊎-elim inl (λ p. inr (below start bits x ∙ lt-ltb (cost x) bits p)) z)
+      low-is (signedEntry start) (figure start bits) len x h (⊎-elim inl (λ p. inr (below start bits x ∙ lt-ltb (cost x) bits p)) z)
       (λ i p q. below start bits i ∙ le-ltb (cost i) bits (above i p q))
 
+  -- high too
   high-at : (x : ℕ) → 1 ≤ x → x ≤ len → (x ≡ len) ⊎ (bits ≤ cost x) → ((i : ℕ) → 1 ≤ i → i < x → cost i < bits) → highest 1 (len - 1) ≡ x
   high-at x g h z under =
-      high-is (entryOf start) (figure start bits) (len - 1) 1 x g (omega arith)
+      high-is (signedEntry start) (figure start bits) (len - 1) 1 x g (omega arith)
       (⊎-elim (λ p. inl (omega arith)) (λ p. inr (at-least start bits x ∙ le-leb bits (cost x) p)) z)
       (λ i p q. at-least start bits i ∙ lt-leb bits (cost i) (under i p q))
 
@@ -95,6 +102,7 @@ module _ (start bits lo hi : ℕ) (r : Row start) (w : Between start bits lo hi)
       by-le bits (cost hi) (λ p. sym (apart p ∙ rw (le-leb (2 * bits) (cost lo + cost hi) h)))
       (λ p. absurd (omega (arith, cost-le start r lo hi (w .order) (w .inside))))
 
+  -- the upper one, also where it is the last and every index costs less
   pub takes-high : cost lo + cost hi < 2 * bits → hi ≡ pulsesFor start (pos bits)
   takes-high h = by-le bits (cost hi) (λ p. sym (apart p ∙ rw (lt-leb (2 * bits) (cost lo + cost hi) h))) (λ p. beyond p (w .high-side))
     where

@@ -1,23 +1,23 @@
--- The enum, told back from what it says: two that say the same are one. Assumes nothing.
+-- The enum is found again from what it says: two that say the same are one. Assumes nothing.
 use Prim.Native.Nat.{ℕ}
 use mathlib.Core.Path.{_≡_, refl}
 use Rattle.entcode.specs.Said.Said.{done, refused}
 use Rattle.entcode.specs.Said.{Said}
 use Rattle.entcode.proofs.Said.{alike}
-use Rattle.rate_cache.specs.declared.Answer.{Answer}
-use Rattle.rate_cache.specs.declared.Answer.the-variants.{Found, Refused}
+use Rattle.rate_cache.specs.declared.LookupAnswer.{LookupAnswer}
+use Rattle.rate_cache.specs.declared.LookupAnswer.the-variants.{Done, Refused}
 use Rattle.rate_cache.specs.Answers.{said}
 
 -- the answer that says this
-abbrev pub back : Said ℕ → Answer
-back (done y) = Found y
+abbrev pub back : Said ℕ → LookupAnswer
+back (done y) = Done y
 back (refused n) = Refused n
 
--- telling it back gives the answer
-pub said-back : (r : Answer) → back (said r) ≡ r
-said-back (Found y) = refl
+-- it is the answer that was said
+pub said-back : (r : LookupAnswer) → back (said r) ≡ r
+said-back (Done y) = refl
 said-back (Refused n) = refl
 
 -- two that say the same are one
-pub said-same : {a b : Answer} → said a ≡ said b → a ≡ b
+pub said-same : {a b : LookupAnswer} → said a ≡ said b → a ≡ b
 said-same e = alike said back said-back e

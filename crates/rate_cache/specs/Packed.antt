@@ -1,4 +1,5 @@
--- How the code keeps the pulse cache: several entries in one number. No public contract cites this.
+-- How the code keeps the pulse cache: several entries in one number. No public contract cites this; modes/specs/CacheBits.antt says which form of
+-- the cache is for what.
 use Prim.Native.Nat.{ℕ, _+_, _-_, _*_}
 use mathlib.Core.Bool.{cond}
 use lib.Dec.{eqb}

@@ -23,8 +23,8 @@ mod packed;
 mod row;
 
 // What a lookup answers: what it found, or the number of the refusal.
-pub enum Answer {
-    Found(u32),
+pub enum LookupAnswer {
+    Done(u32),
     Refused(u32),
 }
 
@@ -95,10 +95,10 @@ fn row_of(band: i32, lm: i32) -> usize
 }
 
 // The number of the refusal of a call without lists and coder.
-fn refusal_of(numbers: bool, own: u32) -> u32
-    ensures { λ r. ⌜ r ≡ refusalOf numbers own ⌝ }
+fn refusal_of(numbers: bool, special: u32) -> u32
+    ensures { λ r. ⌜ r ≡ refusalOf numbers special ⌝ }
 {
-    entcode::refusal_of(true, numbers, true, own, true, true)
+    entcode::refusal_of(true, numbers, true, special, true, true)
 }
 
 // The number of the refusal of bits2pulses.
@@ -125,34 +125,34 @@ fn pulses_refusal(band: i32, lm: i32, pulses: i32) -> u32
 }
 
 // The number of pulses that an index of the cache stands for.
-pub fn get_pulses(i: i32) -> Answer
+pub fn get_pulses(i: i32) -> LookupAnswer
     ensures { λ r. ⌜ said r ≡ pulsesAt i ⌝ }
 {
     let no = refusal_of(laws::in_range(i, 0, 40), 0);
     if no != 0 {
-        return Answer::Refused(no);
+        return LookupAnswer::Refused(no);
     }
-    Answer::Found(pulses_of(laws::clipped(i)))
+    LookupAnswer::Done(pulses_of(laws::clipped(i)))
 }
 
 // The index of pulses whose cost is nearest to the bits.
-pub fn bits2pulses(band: i32, lm: i32, bits: i32) -> Answer
+pub fn bits2pulses(band: i32, lm: i32, bits: i32) -> LookupAnswer
     ensures { λ r. ⌜ said r ≡ bitsToPulses band lm bits ⌝ }
 {
     let no = bits_refusal(band, lm, bits);
     if no != 0 {
-        return Answer::Refused(no);
+        return LookupAnswer::Refused(no);
     }
-    Answer::Found(row::pulses_for(row_of(band, lm), laws::clipped(bits)))
+    LookupAnswer::Done(row::pulses_for(row_of(band, lm), laws::clipped(bits)))
 }
 
 // What an index of pulses costs.
-pub fn pulses2bits(band: i32, lm: i32, pulses: i32) -> Answer
+pub fn pulses2bits(band: i32, lm: i32, pulses: i32) -> LookupAnswer
     ensures { λ r. ⌜ said r ≡ pulsesToBits band lm pulses ⌝ }
 {
     let no = pulses_refusal(band, lm, pulses);
     if no != 0 {
-        return Answer::Refused(no);
+        return LookupAnswer::Refused(no);
     }
-    Answer::Found(row::bits_for(row_of(band, lm), laws::clipped(pulses) as usize))
+    LookupAnswer::Done(row::bits_for(row_of(band, lm), laws::clipped(pulses) as usize))
 }

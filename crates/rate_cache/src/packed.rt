@@ -1,5 +1,5 @@
-// The pulse cache, several entries in one number: a match on a number is made a table by the compiler, where a constant array would be written
-// out at each call.
+// The pulse cache (cache_index50 and cache_bits50), several entries in one number: a match on a number is made a table by the compiler, where a
+// constant array would be written out at each call.
 ghost use mathlib.Core.Path.{_≡_};
 ghost use Prim.Native.Nat.{_<_};
 ghost use Rattle.rate_cache.specs.Packed.{rowMark, fourMarks, eightEntries};

@@ -3,7 +3,7 @@ use crate::packed;
 ghost use mathlib.Core.Path.{_≡_};
 ghost use Prim.Native.Nat.{_+_, _≤_, _<_};
 ghost use lib.IntN.{pos};
-ghost use Rattle.modes.specs.CacheBits.{cacheBits, Row};
+ghost use Rattle.modes.specs.CacheBits.{cacheBits, CacheRow};
 ghost use Rattle.rate_cache.specs.Rows.{pulsesFor, bitsFor};
 
 // What an index of pulses costs, from the table lent.
@@ -19,7 +19,7 @@ fn cost_in(t: &[u8], start: usize, i: usize) -> u32
 
 // The index nearest to the bits, from the table lent: six halvings bring two indices together, then the nearer of them is taken.
 fn nearest_in(t: &[u8], start: usize, bits: u32) -> usize
-    requires { ⌜ (now t ≡ cacheBits) × Row start × (bits ≤ 81600) ⌝ }
+    requires { ⌜ (now t ≡ cacheBits) × CacheRow start × (bits ≤ 81600) ⌝ }
     ensures { λ r. ⌜ (r ≡ pulsesFor start (pos bits)) × (r ≤ 40) ⌝ }
 {
     let mut lo: usize = 0;
@@ -42,7 +42,7 @@ fn nearest_in(t: &[u8], start: usize, bits: u32) -> usize
 
 // bits2pulses in a row. Bits below 0 are nearest to index 0, as 0 bits are.
 pub fn pulses_for(start: usize, bits: u32) -> u32
-    requires { ⌜ Row start × (bits ≤ 81600) ⌝ }
+    requires { ⌜ CacheRow start × (bits ≤ 81600) ⌝ }
     ensures { λ r. ⌜ r ≡ pulsesFor start (pos bits) ⌝ }
 {
     let t = modes::cache_bits::table();

@@ -7,7 +7,7 @@ use native.Mathlib.Omega.{arith}
 use borrow.Author.Tests.{le-leb, lt-ltb}
 use Rattle.entcode.specs.Sym.{lengthOk, listOk, shapeOk, valueOk}
 use Rattle.entcode.specs.Sym.Shape.{bit, uint}
-use Rattle.entcode.proofs.Parts.{parts-ok}
+use Rattle.entcode.proofs.Pieces.{pieces-ok}
 use Rattle.entdec.specs.declared.Reader.{Reader}
 use Rattle.entdec.specs.Ready as dec
 use Rattle.entdec.specs.Symbols.{readSym}
@@ -24,6 +24,7 @@ paired a e = rw e
 
 -- ---- a reader
 
+-- ready for more is ready for fewer
 pub read-less : (k m : ℕ) (d : Reader) → k ≤ m → dec.Ready m d → dec.Ready k d
 read-less k m d h r = reader.ready-less k m d h r
 
@@ -41,6 +42,7 @@ below-read k n s d h g r = reader.ready-after k (uint n) s d r refl (rw (le-leb 
 
 -- ---- a writer
 
+-- ready for more is ready for fewer
 pub write-less : (k m : ℕ) (w : Wr) → k ≤ m → enc.Ready m w → enc.Ready k w
 write-less k m w h r = writer.ready-less k m w h r
 
@@ -54,11 +56,11 @@ pub flag-write : (k : ℕ) (asked stop : Bool) (w : Wr) {yes : Bool} {next : Wr}
     → enc.Ready (suc k) w → enc.Ready k next
 unfolding shapeOk listOk
 flag-write k true stop w e r =
-    rw (ap (λ (p : Bool × Wr). p .1) e) (writer.ready-after k (bit 1) (cond stop 1 0) w (parts-ok (bit 1) (cond stop 1 0) refl (bit-fits stop) refl tt) r)
+    rw (ap (λ (p : Bool × Wr). p .1) e) (writer.ready-after k (bit 1) (cond stop 1 0) w (pieces-ok (bit 1) (cond stop 1 0) refl (bit-fits stop) refl tt) r)
 flag-write k false stop w e r = rw (ap (λ (p : Bool × Wr). p .1) e) (write-less k (suc k) w (omega arith) r)
 
 -- one of n values
 pub below-write : (k n v : ℕ) (w : Wr) → 2 ≤ n → n ≤ 4294967295 → v < n → enc.Ready (suc k) w → enc.Ready k (writeSym (uint n) v w)
 unfolding shapeOk valueOk listOk
 below-write k n v w h g l r =
-    writer.ready-after k (uint n) v w (parts-ok (uint n) v (rw (le-leb 2 n h, le-leb n 4294967295 g)) (lt-ltb v n l) refl tt) r
+    writer.ready-after k (uint n) v w (pieces-ok (uint n) v (rw (le-leb 2 n h, le-leb n 4294967295 g)) (lt-ltb v n l) refl tt) r

@@ -9,8 +9,8 @@ use Rattle.entdec.specs.declared.Reader.{Reader}
 use Rattle.entdec.specs.Symbols.{readSym}
 use Rattle.entenc.specs.Symbols.{writeSym}
 use Rattle.entenc.specs.Write.{Wr}
-use Rattle.rate_def.specs.Answers.{reading, writing}
-use Rattle.rate_def.specs.Asked.{Ask, In}
+use Rattle.rate_spec.specs.Answers.{decoderAsk, encoderAsk}
+use Rattle.rate_spec.specs.Types.{Ask, AllocIn}
 
 -- one bit of probability a half, from the packet s
 abbrev pub readBit : List ℕ → Reader → Bool × Reader
@@ -22,7 +22,7 @@ readBelow s n d = (readSym (uint n) s d .value, readSym (uint n) s d .next)
 
 -- a decoder of the packet s
 abbrev pub readAsk : List ℕ → Ask Reader
-readAsk s = reading (readBit s) (readBelow s)
+readAsk s = decoderAsk (readBit s) (readBelow s)
 
 -- one bit of probability a half
 abbrev pub writeBit : Bool → Wr → Wr
@@ -32,9 +32,9 @@ writeBit b w = writeSym (bit 1) (cond b 1 0) w
 abbrev pub writeBelow : ℕ → ℕ → Wr → Wr
 writeBelow n v w = writeSym (uint n) v w
 
--- an encoder, with the band count of the frame before, the signal's bandwidth, and the intensity and dual stereo that it is told
-abbrev pub writeAsk : In → ℤ → ℤ → ℕ → Bool → Ask Wr
-writeAsk a previous bandwidth intensity dual = writing a previous bandwidth writeBit writeBelow intensity dual
+-- an encoder, with the band count of the frame before, the signal's bandwidth, and the intensity and dual stereo that it is given
+abbrev pub writeAsk : AllocIn → ℤ → ℤ → ℕ → Bool → Ask Wr
+writeAsk a previous bandwidth intensity dual = encoderAsk a previous bandwidth writeBit writeBelow intensity dual
 
 -- an answer where the question is asked; else no, and the state stays
 abbrev pub whenAsked : {σ : Type 0} → Bool → Bool × σ → σ → Bool × σ

@@ -1,6 +1,6 @@
 // What an encoder decides: which flag it writes, and which intensity.
 use laws::pow2;
-use rate_bands::Frame;
+use rate_bands::AllocCounts;
 ghost use mathlib.Core.Path.{_≡_};
 ghost use mathlib.Core.Bool.{cond};
 ghost use Prim.Native.Nat.{_-_, _≤_, _<_, min};
@@ -8,8 +8,8 @@ ghost use lib.Dec.{ltb};
 ghost use lib.IntN.{pos};
 ghost use lib.Signed.{ltZ};
 ghost use Rattle.modes.specs.Edges.{width};
-ghost use Rattle.rate_def.specs.Answers.{stops};
-ghost use Rattle.rate_bands.specs.Frame.{bare, FrameIn};
+ghost use Rattle.rate_spec.specs.Answers.{stops};
+ghost use Rattle.rate_bands.specs.Inputs.{bare, AllocCountsOk};
 
 // How deep the top of `coded` bands must be coded to stay, in 16ths of a bit for each coefficient.
 fn depth_of(coded: usize, previous: i32) -> u32
@@ -25,8 +25,15 @@ fn depth_of(coded: usize, previous: i32) -> u32
 }
 
 // Whether the encoder says stop, with the top band of width w and `top` bits.
-pub fn stops_of(f: Frame, coded: usize, w: u32, top: u32, previous: i32, bandwidth: i32) -> bool
-    requires { ⌜ FrameIn f × (1 ≤ coded) × (coded ≤ 21) × (w ≡ width (coded - 1)) ⌝ }
+pub fn stops_of(
+    f: AllocCounts,
+    coded: usize,
+    w: u32,
+    top: u32,
+    previous: i32,
+    bandwidth: i32,
+) -> bool
+    requires { ⌜ AllocCountsOk f × (1 ≤ coded) × (coded ≤ 21) × (w ≡ width (coded - 1)) ⌝ }
     ensures { λ r. ⌜ r ≡ stops (bare f) previous bandwidth coded top ⌝ }
 {
     if coded <= f.start + 2 {

@@ -1,10 +1,12 @@
-// The figures of a round of skipping, and what is left when all is over.
-use crate::Turn;
-use laws::less;
+// The figures of a round of skipping, and what is left after it and the stereo symbols.
+use crate::RoundFigures;
 use laws::max32;
+use laws::saturating_sub;
 use modes::fractions::fraction_of;
-use rate_bands::Frame;
+use rate_bands::AllocCounts;
 use rate_bands::Reserves;
+use rate_bands::band::floor_of;
+use rate_bands::band::floored_of;
 use rate_bands::band::threshold_of;
 ghost use mathlib.Core.Path.{_≡_};
 ghost use mathlib.Core.Bool.{cond};
@@ -14,10 +16,11 @@ ghost use lib.Dec.{leb, eqb};
 ghost use lib.ListN.{getD};
 ghost use Rattle.modes.specs.Edges.{edge, width};
 ghost use Rattle.modes.specs.Fractions.{fraction};
-ghost use Rattle.rate_def.specs.Vectors.{threshold};
-ghost use Rattle.rate_bands.specs.Frame.{bare, FrameIn};
+ghost use Rattle.rate_spec.specs.Reserves.{allocFloor};
+ghost use Rattle.rate_spec.specs.Vectors.{threshold};
+ghost use Rattle.rate_bands.specs.Inputs.{bare, AllocCountsOk};
 ghost use Rattle.rate_bands.specs.Reserved.{Reserved};
-ghost use Rattle.rate_skip.specs.Turns.{leftAt, standing, turnOf, RoundIn};
+ghost use Rattle.rate_skip.specs.Rounds.{leftAt, roundOf, roundFigures, RoundIn};
 
 // The b bits of the band from edge lo to edge hi, with its part if what is left were spread evenly from the edge first on.
 fn top_of(b: u32, left: u32, first: u32, lo: u32, hi: u32) -> u32
@@ -26,26 +29,18 @@ fn top_of(b: u32, left: u32, first: u32, lo: u32, hi: u32) -> u32
 {
     let w = hi - first;
     let m = left / w * (hi - lo);
-    b + m + less(left % w, lo - first)
+    b + m + saturating_sub(left % w, lo - first)
 }
 
 // What the flag of a round costs: a bit where the top band, of width w, could be coded after a flag was paid.
-fn paid_of(f: Frame, j: usize, w: u32, top: u32) -> u32
-    requires { ⌜ FrameIn f × (w ≡ width j) ⌝ }
-    ensures { λ r. ⌜ (r ≡ cond (leb (max (threshold (bare f) j) (8 * f .c + 8)) top) 8 0) × (r ≤ top) × (r ≤ 8) ⌝ }
+fn paid_of(f: AllocCounts, j: usize, w: u32, top: u32) -> u32
+    requires { ⌜ AllocCountsOk f × (w ≡ width j) ⌝ }
+    ensures { λ r. ⌜ (r ≡ cond (leb (max (threshold (bare f) j) (allocFloor (bare f) + 8)) top) 8 0) × (r ≤ top) × (r ≤ 8) ⌝ }
 {
+    let floor = floor_of(f);
     let t = threshold_of(f, j, w);
-    let m = max32(t, 8 * f.c + 8);
+    let m = max32(t, floor + 8);
     if m <= top { 8 } else { 0 }
-}
-
-// A floor of x bits that have one, else nothing.
-fn keep_of(c: u32, x: u32) -> u32
-    requires { ⌜ c ≤ 2 ⌝ }
-    ensures { λ r. ⌜ (r ≡ cond (leb (8 * c) x) (8 * c) 0) × (r ≤ x) ⌝ }
-{
-    let floor = 8 * c;
-    if floor <= x { floor } else { 0 }
 }
 
 // What is reserved for intensity with n bands left.
@@ -58,7 +53,7 @@ fn reserve_of(reserve: u32, n: usize) -> u32
 
 // A round's figures, where the top band of `coded` goes from edge lo to edge hi.
 pub fn round_of(
-    f: Frame,
+    f: AllocCounts,
     bits: &[u32; 21],
     first: u32,
     lo: u32,
@@ -66,21 +61,21 @@ pub fn round_of(
     coded: usize,
     left: u32,
     reserve: u32,
-) -> Turn
+) -> RoundFigures
     requires { ⌜ RoundIn f (now bits) coded left reserve × (first ≡ edge (f .start)) × (lo ≡ edge (coded - 1)) × (hi ≡ edge coded) ⌝ }
-    ensures { λ r. ⌜ r ≡ turnOf (bare f) (λ j. getD (now (bits .entry)) j 0) (standing coded left reserve []) ⌝ }
+    ensures { λ r. ⌜ r ≡ roundFigures (bare f) (λ j. getD (now (bits .entry)) j 0) (roundOf coded left reserve []) ⌝ }
 {
     let j = coded - 1;
     let b = bits[j];
     let top = top_of(b, left, first, lo, hi);
     let paid = paid_of(f, j, hi - lo, top);
-    let keep = keep_of(f.c, top - paid);
+    let keep = floored_of(f, top - paid);
     let next = reserve_of(reserve, j - f.start);
-    Turn {
+    RoundFigures {
         top: top,
         asked: 0 < paid,
         keep: keep,
-        left: left + b + less(reserve, next) - paid - keep,
+        left: left + b + saturating_sub(reserve, next) - paid - keep,
         reserve: next,
     }
 }
@@ -92,9 +87,9 @@ fn back_of(coded: bool, reserve: u32) -> u32
     if coded { 0 } else { reserve }
 }
 
-// What is left when skipping and the stereo symbols are over.
-pub fn left_of(f: Frame, k: Reserves, left: u32, stopped: bool, intensity: usize) -> u32
-    requires { ⌜ FrameIn f × Reserved (bare f) k × (left ≤ 81600) ⌝ }
+// What is left after skipping and the stereo symbols: a reservation whose symbol was not coded comes back.
+pub fn left_of(f: AllocCounts, k: Reserves, left: u32, stopped: bool, intensity: usize) -> u32
+    requires { ⌜ AllocCountsOk f × Reserved (bare f) k × (left ≤ 81600) ⌝ }
     ensures { λ r. ⌜ r ≡ leftAt (bare f) left stopped intensity ⌝ }
 {
     let asked = (f.start < intensity) & (0 < k.dual);

@@ -10,7 +10,7 @@ use entenc::Writer;
 
 // A round's figures: what the top band would get, whether a flag is asked, and if the band is dropped, what it keeps, what is left for the
 // others and what is reserved for intensity.
-pub struct Turn {
+pub struct RoundFigures {
     pub top: u32,
     pub asked: bool,
     pub keep: u32,

@@ -5,18 +5,18 @@ use crate::ReadSkip;
 use crate::figures::round_of;
 use entdec::Reader;
 use modes::edges::edge_of;
-use rate_bands::Frame;
+use rate_bands::AllocCounts;
 ghost use mathlib.Core.Path.{_≡_};
 ghost use mathlib.Core.List.{[]};
 ghost use Prim.Native.Nat.{suc, _-_, _≤_, _<_};
 ghost use lib.ListN.{length, getD};
 ghost use Rattle.entdec.specs.Ready.{Ready};
-ghost use Rattle.rate_def.specs.Alloc.{askDual, askIntensity};
-ghost use Rattle.rate_def.specs.Reserves.{dualReserve};
-ghost use Rattle.rate_def.specs.Skips.{skip};
-ghost use Rattle.rate_bands.specs.Frame.{bare, FrameIn};
+ghost use Rattle.rate_spec.specs.Alloc.{askDual, askIntensity};
+ghost use Rattle.rate_spec.specs.Reserves.{dualReserve};
+ghost use Rattle.rate_spec.specs.Skips.{skip};
+ghost use Rattle.rate_bands.specs.Inputs.{bare, AllocCountsOk};
 ghost use Rattle.rate_skip.specs.Asks.{readAsk, readBit, whenAsked};
-ghost use Rattle.rate_skip.specs.Turns.{ending, keptOf, standing, SkipIn};
+ghost use Rattle.rate_skip.specs.Rounds.{skipEnding, keptOf, roundOf, SkipIn};
 
 // A flag, where it is asked.
 fn bit_read(asked: bool, s: &[u8], d: Reader) -> ReadBit
@@ -40,7 +40,7 @@ fn bit_read(asked: bool, s: &[u8], d: Reader) -> ReadBit
 
 // Rounds from the top down to band low, until a flag says stop. Entry j of `kept` becomes what the dropped band j keeps.
 pub fn skip_read(
-    f: Frame,
+    f: AllocCounts,
     bits: &[u32; 21],
     low: usize,
     left: u32,
@@ -51,8 +51,8 @@ pub fn skip_read(
 ) -> ReadSkip
     requires { ⌜ SkipIn f (now bits) low left reserve × Ready 22 d × (length (now kept) ≡ 21) ⌝ }
     ensures { λ r.
-        ⌜ ((standing (r .coded) (r .left) (r .reserve) (keptOf (f .end) (r .coded) (now (kept .exit))), r .stopped, r .next)
-        ≡ ending (skip (bare f) (λ j. getD (now (bits .entry)) j 0) (readAsk (now (s .entry))) (f .end - suc low) (standing (f .end) left reserve []) d))
+        ⌜ ((roundOf (r .coded) (r .left) (r .reserve) (keptOf (f .end) (r .coded) (now (kept .exit))), r .stopped, r .next)
+        ≡ skipEnding (skip (bare f) (λ j. getD (now (bits .entry)) j 0) (readAsk (now (s .entry))) (f .end - suc low) (roundOf (f .end) left reserve []) d))
         × Ready 2 (r .next) ⌝ }
 {
     let first = edge_of(f.start);
@@ -92,10 +92,10 @@ pub fn skip_read(
 }
 
 // The first band whose channels are coded as one, where something is reserved for saying so.
-pub fn intensity_read(f: Frame, coded: usize, reserve: u32, s: &[u8], d: Reader) -> ReadBand
-    requires { ⌜ FrameIn f × (f .start < coded) × (coded ≤ 21) × Ready 2 d ⌝ }
+pub fn intensity_read(f: AllocCounts, coded: usize, reserve: u32, s: &[u8], d: Reader) -> ReadBand
+    requires { ⌜ AllocCountsOk f × (f .start < coded) × (coded ≤ 21) × Ready 2 d ⌝ }
     ensures { λ r.
-        ⌜ ((r .band, r .next) ≡ askIntensity (bare f) (readAsk (now (s .entry))) (standing coded 0 reserve []) d) × (r .band ≤ coded) × Ready 1 (r .next) ⌝ }
+        ⌜ ((r .band, r .next) ≡ askIntensity (bare f) (readAsk (now (s .entry))) (roundOf coded 0 reserve []) d) × (r .band ≤ coded) × Ready 1 (r .next) ⌝ }
 {
     let start = f.start;
     if reserve == 0 {
@@ -109,8 +109,8 @@ pub fn intensity_read(f: Frame, coded: usize, reserve: u32, s: &[u8], d: Reader)
     }
 }
 
-// Whether the bands below it have their channels apart, where it is asked; `reserve` is what is reserved for it.
-pub fn dual_read(f: Frame, reserve: u32, intensity: usize, s: &[u8], d: Reader) -> ReadBit
+// Whether the bands below it have separate channels, where it is asked; `reserve` is what is reserved for it.
+pub fn dual_read(f: AllocCounts, reserve: u32, intensity: usize, s: &[u8], d: Reader) -> ReadBit
     requires { ⌜ (reserve ≡ dualReserve (bare f)) × Ready 1 d ⌝ }
     ensures { λ r. ⌜ (r .yes, r .next) ≡ askDual (bare f) (readAsk (now (s .entry))) intensity d ⌝ }
 {

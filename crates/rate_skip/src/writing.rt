@@ -7,7 +7,7 @@ use crate::choice::written_of;
 use crate::figures::round_of;
 use entenc::Writer;
 use modes::edges::edge_of;
-use rate_bands::Frame;
+use rate_bands::AllocCounts;
 ghost use mathlib.Core.Path.{_≡_};
 ghost use mathlib.Core.Bool.{false};
 ghost use mathlib.Core.List.{[]};
@@ -17,13 +17,13 @@ ghost use lib.ListN.{length, getD};
 ghost use Rattle.entenc.specs.Ready.{Ready};
 ghost use Rattle.entenc.specs.Write.{wr};
 ghost use Rattle.modes.specs.Edges.{width};
-ghost use Rattle.rate_def.specs.Alloc.{askDual, askIntensity};
-ghost use Rattle.rate_def.specs.Answers.{stops};
-ghost use Rattle.rate_def.specs.Reserves.{dualReserve};
-ghost use Rattle.rate_def.specs.Skips.{skip};
-ghost use Rattle.rate_bands.specs.Frame.{bare, FrameIn};
+ghost use Rattle.rate_spec.specs.Alloc.{askDual, askIntensity};
+ghost use Rattle.rate_spec.specs.Answers.{stops};
+ghost use Rattle.rate_spec.specs.Reserves.{dualReserve};
+ghost use Rattle.rate_spec.specs.Skips.{skip};
+ghost use Rattle.rate_bands.specs.Inputs.{bare, AllocCountsOk};
 ghost use Rattle.rate_skip.specs.Asks.{whenAsked, writeAsk, writeBit};
-ghost use Rattle.rate_skip.specs.Turns.{ending, keptOf, standing, SkipIn};
+ghost use Rattle.rate_skip.specs.Rounds.{skipEnding, keptOf, roundOf, SkipIn};
 
 // A flag, where it is asked.
 fn bit_write(asked: bool, yes: bool, w: Writer, buf: &mut [u8]) -> WriteBit
@@ -54,7 +54,7 @@ fn bit_write(asked: bool, yes: bool, w: Writer, buf: &mut [u8]) -> WriteBit
 
 // The flag of a round with `coded` bands, of which the top one has the width n and `top` bits.
 fn flag_write(
-    f: Frame,
+    f: AllocCounts,
     asked: bool,
     coded: usize,
     n: u32,
@@ -64,10 +64,11 @@ fn flag_write(
     w: Writer,
     buf: &mut [u8],
 ) -> WriteBit
-    requires { ⌜ FrameIn f × (1 ≤ coded) × (coded ≤ 21) × (n ≡ width (coded - 1)) × Ready 1 (wr w (now buf)) ⌝ }
+    requires { ⌜ AllocCountsOk f × (1 ≤ coded) × (coded ≤ 21) × (n ≡ width (coded - 1)) × Ready 1 (wr w (now buf)) ⌝ }
     ensures { λ r.
         ⌜ (r .yes, wr (r .next) (now (buf .exit)))
-        ≡ whenAsked asked (stops (bare f) previous bandwidth coded top, writeBit (stops (bare f) previous bandwidth coded top) (wr w (now (buf .entry)))) (wr w (now (buf .entry))) ⌝ }
+        ≡ whenAsked asked (stops (bare f) previous bandwidth coded top, writeBit (stops (bare f) previous bandwidth coded top) (wr w (now (buf .entry))))
+        (wr w (now (buf .entry))) ⌝ }
 {
     let stop = stops_of(f, coded, n, top, previous, bandwidth);
     bit_write(asked, stop, w, buf)
@@ -75,7 +76,7 @@ fn flag_write(
 
 // Rounds from the top down to band low, until the encoder says stop. Entry j of `kept` becomes what the dropped band j keeps.
 pub fn skip_write(
-    f: Frame,
+    f: AllocCounts,
     bits: &[u32; 21],
     low: usize,
     left: u32,
@@ -88,8 +89,9 @@ pub fn skip_write(
 ) -> WriteSkip
     requires { ⌜ SkipIn f (now bits) low left reserve × Ready 22 (wr w (now buf)) × (length (now kept) ≡ 21) ⌝ }
     ensures { λ r.
-        ⌜ ((standing (r .coded) (r .left) (r .reserve) (keptOf (f .end) (r .coded) (now (kept .exit))), r .stopped, wr (r .next) (now (buf .exit)))
-        ≡ ending (skip (bare f) (λ j. getD (now (bits .entry)) j 0) (writeAsk (bare f) previous bandwidth 0 false) (f .end - suc low) (standing (f .end) left reserve []) (wr w (now (buf .entry)))))
+        ⌜ ((roundOf (r .coded) (r .left) (r .reserve) (keptOf (f .end) (r .coded) (now (kept .exit))), r .stopped, wr (r .next) (now (buf .exit)))
+        ≡ skipEnding (skip (bare f) (λ j. getD (now (bits .entry)) j 0) (writeAsk (bare f) previous bandwidth 0 false) (f .end - suc low)
+        (roundOf (f .end) left reserve []) (wr w (now (buf .entry)))))
         × Ready 2 (wr (r .next) (now (buf .exit))) ⌝ }
 {
     let first = edge_of(f.start);
@@ -140,17 +142,17 @@ pub fn skip_write(
 
 // The first band whose channels are coded as one, where something is reserved for saying so: the smaller of the caller's and the coded bands.
 pub fn intensity_write(
-    f: Frame,
+    f: AllocCounts,
     coded: usize,
     reserve: u32,
     intensity: usize,
     w: Writer,
     buf: &mut [u8],
 ) -> WriteBand
-    requires { ⌜ FrameIn f × (f .start < coded) × (coded ≤ 21) × Ready 2 (wr w (now buf)) ⌝ }
+    requires { ⌜ AllocCountsOk f × (f .start < coded) × (coded ≤ 21) × Ready 2 (wr w (now buf)) ⌝ }
     ensures { λ r.
         ⌜ ((r .band, wr (r .next) (now (buf .exit)))
-        ≡ askIntensity (bare f) (writeAsk (bare f) (pos 0) (pos 0) intensity false) (standing coded 0 reserve []) (wr w (now (buf .entry))))
+        ≡ askIntensity (bare f) (writeAsk (bare f) (pos 0) (pos 0) intensity false) (roundOf coded 0 reserve []) (wr w (now (buf .entry))))
         × (r .band ≤ coded) × Ready 1 (wr (r .next) (now (buf .exit))) ⌝ }
 {
     let start = f.start;
@@ -165,9 +167,9 @@ pub fn intensity_write(
     }
 }
 
-// Whether the bands below it have their channels apart, where it is asked; `reserve` is what is reserved for it.
+// Whether the bands below it have separate channels, where it is asked; `reserve` is what is reserved for it.
 pub fn dual_write(
-    f: Frame,
+    f: AllocCounts,
     reserve: u32,
     intensity: usize,
     dual: bool,

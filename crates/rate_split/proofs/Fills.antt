@@ -4,15 +4,15 @@ use mathlib.Core.Bool.{Bool}
 use mathlib.Core.List.{List, []}
 use mathlib.Core.Path.{_≡_, refl, ap, sym, _∙_}
 use native.Mathlib.Omega.{arith}
-use lib.ListN.{length, getD, set, take, drop}
+use lib.ListN.{getD, set, take, drop}
 use lib.Seq.{getD-take, getD-drop}
 use Rattle.laws.specs.Lists.{fill}
-use Rattle.laws.proofs.Lists.{fill-length, fill-same, fill-up}
-use Rattle.rate_def.specs.Alloc.{skipped}
-use Rattle.rate_def.proofs.Loops.{band-coded, band-skipped}
-use Rattle.rate_bands.specs.Frame.{inOf}
-use Rattle.rate_bands.specs.declared.Frame.{Frame}
-use Rattle.rate_split.specs.Bands.{bandAt, codedAt, skippedAt}
+use Rattle.laws.proofs.Lists.{fill-same, fill-up}
+use Rattle.rate_spec.specs.Alloc.{skipped}
+use Rattle.rate_spec.proofs.Loops.{band-coded, band-skipped}
+use Rattle.rate_bands.specs.Inputs.{allocIn, bare}
+use Rattle.rate_bands.specs.declared.AllocCounts.{AllocCounts}
+use Rattle.rate_split.specs.Bands.{bandAt, codedAt}
 
 module _ {A : Type 0} where
   fill-more : (h : ℕ → A) (mid m : ℕ) (l : List A) → fill h mid (suc m) l ≡ set (fill h mid m l) (mid + m) (h (mid + m))
@@ -30,6 +30,7 @@ module _ {A : Type 0} where
       ∙ fill-up h start (mid + m) l (omega arith) (fill-append h start mid m l s) refl
       ∙ ap (λ (n : ℕ). fill h start n l) (sym e)
 
+  -- filled with f below mid and with g from it on, where both are h there
   pub fill-parts : (f g h : ℕ → A) (start mid end : ℕ) (l : List A) {u v : List A} → start ≤ mid → mid ≤ end
       → ((i : ℕ) → i < mid → f i ≡ h i) → ((i : ℕ) → mid ≤ i → i < end → g i ≡ h i)
       → u ≡ fill f start (mid - start) l → v ≡ fill g mid (end - mid) u → v ≡ fill h start (end - start) l
@@ -41,18 +42,16 @@ module _ {A : Type 0} where
       ∙ fill-append h start mid (end - mid) l s
       ∙ ap (λ (n : ℕ). fill h start n l) e
 
--- a filled list is as long as it was
-pub filled-length : {A : Type 0} (f : ℕ → A) (n start : ℕ) (m : List A) {l : List A} → l ≡ fill f start n m → length l ≡ length m
-filled-length f n start m e = ap length e ∙ fill-length f n start m
-
-module _ (f : Frame) (caps bits : List ℕ) (coded left intensity : ℕ) (dual : Bool) (kept : List ℕ) (j : ℕ) where
+module _ (f : AllocCounts) (caps bits : List ℕ) (coded left intensity : ℕ) (dual : Bool) (kept : List ℕ) (j : ℕ) where
+  -- below `coded`
   pub coded-is : j < coded → codedAt f caps bits coded left intensity dual j ≡ bandAt f caps bits coded left intensity dual kept j
-  coded-is h = sym (band-coded (inOf f [] caps) (λ j. getD bits j 0) coded left intensity dual _ j h)
+  coded-is h = sym (band-coded (allocIn f [] caps) (λ j. getD bits j 0) coded left intensity dual _ j h)
 
-  pub skipped-is : coded ≤ j → j < f .end → skippedAt (f .c) (getD kept j 0) ≡ bandAt f caps bits coded left intensity dual kept j
+  -- from `coded` on
+  pub skipped-is : coded ≤ j → j < f .end → skipped (bare f) (getD kept j 0) ≡ bandAt f caps bits coded left intensity dual kept j
   unfolding skipped
   skipped-is h g =
       let e : coded + (j - coded) ≡ j = omega arith in
       let i : j - coded < f .end - coded = omega arith in
       let k : getD (take (f .end - coded) (drop coded kept)) (j - coded) 0 ≡ getD kept j 0 = rw (getD-take, getD-drop, e) in
-      sym (rw k at (band-skipped (inOf f [] caps) (λ j. getD bits j 0) coded left intensity dual (take (f .end - coded) (drop coded kept)) j h))
+      sym (rw k at (band-skipped (allocIn f [] caps) (λ j. getD bits j 0) coded left intensity dual (take (f .end - coded) (drop coded kept)) j h))

@@ -1,5 +1,5 @@
 -- Lemmas that the proofs share. To cite: Boosts.
 pub mod Fines
-pub mod Turns
+pub mod CodedBands
 pub mod Fills
 pub mod Boosts

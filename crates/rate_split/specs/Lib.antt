@@ -1,3 +1,3 @@
 -- What the code of the spread and the split answers, and what it is asked.
-pub mod Parts
+pub mod Splits
 pub mod Bands

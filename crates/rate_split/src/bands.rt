@@ -1,20 +1,22 @@
 // All bands, the coded ones from below and then the skipped ones. The lists are the caller's: entries outside start..end-1 stay.
-use crate::Part;
+use crate::BandSplit;
 use crate::shares::part_of;
 use crate::shares::share_of;
 use modes::edges::edge_of;
-use rate_bands::Frame;
+use rate_bands::AllocCounts;
+use rate_bands::band::floor_of;
 ghost use mathlib.Core.Path.{_≡_};
-ghost use Prim.Native.Nat.{_-_, _*_, _/_, _≤_, _<_};
+ghost use Prim.Native.Nat.{_-_, _≤_, _<_};
 ghost use lib.IntN.{pos};
 ghost use lib.ListN.{length, getD, set};
 ghost use Rattle.laws.specs.Lists.{fill};
-ghost use Rattle.rate_bands.specs.Frame.{FrameIn};
-ghost use Rattle.rate_split.specs.Parts.{asBand};
-ghost use Rattle.rate_split.specs.Bands.{codedAt, carriedAt, skippedAt, bandAt, SplitIn};
+ghost use Rattle.rate_spec.specs.Alloc.{skipped};
+ghost use Rattle.rate_bands.specs.Inputs.{bare, AllocCountsOk};
+ghost use Rattle.rate_split.specs.Splits.{asBand};
+ghost use Rattle.rate_split.specs.Bands.{codedAt, carriedAt, bandAt, SplitIn};
 
 // A count as the lists hold it.
-fn signed(n: u32) -> i32
+pub fn signed(n: u32) -> i32
     requires { ⌜ n ≤ 2147483647 ⌝ }
     ensures { λ r. ⌜ r ≡ pos n ⌝ }
 {
@@ -22,7 +24,7 @@ fn signed(n: u32) -> i32
 }
 
 // A band's part goes into the lists.
-fn store(p: Part, j: usize, pulses: &mut [i32], fine: &mut [i32], prios: &mut [i32])
+fn store(p: BandSplit, j: usize, pulses: &mut [i32], fine: &mut [i32], prios: &mut [i32])
     requires { ⌜ (p .pulses ≤ 2147483647) × (p .fine ≤ 2147483647) × (p .prio ≤ 2147483647) ⌝ }
     requires { ⌜ (j < length (now pulses)) × (j < length (now fine)) × (j < length (now prios)) ⌝ }
     ensures { λ r.
@@ -39,7 +41,7 @@ fn store(p: Part, j: usize, pulses: &mut [i32], fine: &mut [i32], prios: &mut [i
 
 // The coded bands: each is split with its share and what the band below handed on. It gives what the last one hands on.
 fn split_coded(
-    f: Frame,
+    f: AllocCounts,
     caps: &[u32; 21],
     bits: &[u32; 21],
     coded: usize,
@@ -55,11 +57,14 @@ fn split_coded(
     ensures { λ r.
         ⌜ (r ≡ carriedAt f (now (caps .entry)) (now (bits .entry)) coded left intensity dual (coded - f .start))
         × (now (pulses .exit)
-        ≡ fill (λ j. pos (codedAt f (now (caps .entry)) (now (bits .entry)) coded left intensity dual j .pulses)) (f .start) (coded - f .start) (now (pulses .entry)))
+        ≡ fill (λ j. pos (codedAt f (now (caps .entry)) (now (bits .entry)) coded left intensity dual j .pulses)) (f .start) (coded - f .start)
+        (now (pulses .entry)))
         × (now (fine .exit)
-        ≡ fill (λ j. pos (codedAt f (now (caps .entry)) (now (bits .entry)) coded left intensity dual j .fine)) (f .start) (coded - f .start) (now (fine .entry)))
+        ≡ fill (λ j. pos (codedAt f (now (caps .entry)) (now (bits .entry)) coded left intensity dual j .fine)) (f .start) (coded - f .start)
+        (now (fine .entry)))
         × (now (prios .exit)
-        ≡ fill (λ j. pos (codedAt f (now (caps .entry)) (now (bits .entry)) coded left intensity dual j .prio)) (f .start) (coded - f .start) (now (prios .entry))) ⌝ }
+        ≡ fill (λ j. pos (codedAt f (now (caps .entry)) (now (bits .entry)) coded left intensity dual j .prio)) (f .start) (coded - f .start)
+        (now (prios .entry))) ⌝ }
 {
     let start = f.start;
     let g = share_of(start, coded, left);
@@ -78,20 +83,21 @@ fn split_coded(
 }
 
 // A skipped band has no pulses, and what it kept is for fine energy.
-fn skipped_of(c: u32, kept: u32) -> Part
-    requires { ⌜ (1 ≤ c) × (c ≤ 2) ⌝ }
-    ensures { λ r. ⌜ (asBand r ≡ skippedAt c kept) × (r .fine ≤ 2147483647) × (r .prio ≤ 1) ⌝ }
+fn skipped_of(f: AllocCounts, kept: u32) -> BandSplit
+    requires { ⌜ AllocCountsOk f ⌝ }
+    ensures { λ r. ⌜ (asBand r ≡ skipped (bare f) kept) × (r .pulses ≡ 0) × (r .fine ≤ 2147483647) × (r .prio ≤ 1) ⌝ }
 {
-    let e = kept / (8 * c);
+    let floor = floor_of(f);
+    let e = kept / floor;
     if e < 1 {
-        Part {
+        BandSplit {
             pulses: 0,
             fine: e,
             prio: 1,
             balance: 0,
         }
     } else {
-        Part {
+        BandSplit {
             pulses: 0,
             fine: e,
             prio: 0,
@@ -102,24 +108,24 @@ fn skipped_of(c: u32, kept: u32) -> Part
 
 // The skipped bands.
 fn split_skipped(
-    f: Frame,
+    f: AllocCounts,
     coded: usize,
     kept: &[u32; 21],
     pulses: &mut [i32],
     fine: &mut [i32],
     prios: &mut [i32],
 )
-    requires { ⌜ FrameIn f × (coded ≤ f .end) ⌝ }
+    requires { ⌜ AllocCountsOk f × (coded ≤ f .end) ⌝ }
     requires { ⌜ (length (now pulses) ≡ 21) × (length (now fine) ≡ 21) × (length (now prios) ≡ 21) ⌝ }
     ensures { λ r.
-        ⌜ (now (pulses .exit) ≡ fill (λ j. pos (skippedAt (f .c) (getD (now (kept .entry)) j 0) .pulses)) coded (f .end - coded) (now (pulses .entry)))
-        × (now (fine .exit) ≡ fill (λ j. pos (skippedAt (f .c) (getD (now (kept .entry)) j 0) .fine)) coded (f .end - coded) (now (fine .entry)))
-        × (now (prios .exit) ≡ fill (λ j. pos (skippedAt (f .c) (getD (now (kept .entry)) j 0) .prio)) coded (f .end - coded) (now (prios .entry))) ⌝ }
+        ⌜ (now (pulses .exit) ≡ fill (λ j. pos (skipped (bare f) (getD (now (kept .entry)) j 0) .pulses)) coded (f .end - coded) (now (pulses .entry)))
+        × (now (fine .exit) ≡ fill (λ j. pos (skipped (bare f) (getD (now (kept .entry)) j 0) .fine)) coded (f .end - coded) (now (fine .entry)))
+        × (now (prios .exit) ≡ fill (λ j. pos (skipped (bare f) (getD (now (kept .entry)) j 0) .prio)) coded (f .end - coded) (now (prios .entry))) ⌝ }
 {
     let end = f.end;
     let mut j = coded;
     while j < end {
-        let p = skipped_of(f.c, kept[j]);
+        let p = skipped_of(f, kept[j]);
         store(p, j, pulses, fine, prios);
         j += 1;
     }
@@ -127,7 +133,7 @@ fn split_skipped(
 
 // All bands start..end-1, of which those below `coded` are coded. It gives what the last coded band hands on.
 pub fn split_bands(
-    f: Frame,
+    f: AllocCounts,
     caps: &[u32; 21],
     bits: &[u32; 21],
     kept: &[u32; 21],
@@ -144,11 +150,14 @@ pub fn split_bands(
     ensures { λ r.
         ⌜ (r ≡ carriedAt f (now (caps .entry)) (now (bits .entry)) coded left intensity dual (coded - f .start))
         × (now (pulses .exit)
-        ≡ fill (λ j. pos (bandAt f (now (caps .entry)) (now (bits .entry)) coded left intensity dual (now (kept .entry)) j .pulses)) (f .start) (f .end - f .start) (now (pulses .entry)))
+        ≡ fill (λ j. pos (bandAt f (now (caps .entry)) (now (bits .entry)) coded left intensity dual (now (kept .entry)) j .pulses)) (f .start)
+        (f .end - f .start) (now (pulses .entry)))
         × (now (fine .exit)
-        ≡ fill (λ j. pos (bandAt f (now (caps .entry)) (now (bits .entry)) coded left intensity dual (now (kept .entry)) j .fine)) (f .start) (f .end - f .start) (now (fine .entry)))
+        ≡ fill (λ j. pos (bandAt f (now (caps .entry)) (now (bits .entry)) coded left intensity dual (now (kept .entry)) j .fine)) (f .start)
+        (f .end - f .start) (now (fine .entry)))
         × (now (prios .exit)
-        ≡ fill (λ j. pos (bandAt f (now (caps .entry)) (now (bits .entry)) coded left intensity dual (now (kept .entry)) j .prio)) (f .start) (f .end - f .start) (now (prios .entry))) ⌝ }
+        ≡ fill (λ j. pos (bandAt f (now (caps .entry)) (now (bits .entry)) coded left intensity dual (now (kept .entry)) j .prio)) (f .start)
+        (f .end - f .start) (now (prios .entry))) ⌝ }
 {
     let balance = split_coded(
         f,

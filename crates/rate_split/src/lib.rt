@@ -5,7 +5,7 @@ pub mod shares;
 pub mod split;
 
 // What a band gets: pulses, fine bits of a channel, whether its fine energy comes last (1), and what it hands to the next band.
-pub struct Part {
+pub struct BandSplit {
     pub pulses: u32,
     pub fine: u32,
     pub prio: u32,

@@ -1,20 +1,20 @@
 // One coded band, with its share of what is left.
-use crate::Part;
+use crate::BandSplit;
 use crate::Share;
 use crate::split::split_of;
-use laws::less;
 use laws::min32;
 use laws::pow2;
+use laws::saturating_sub;
 use modes::edges::edge_of;
 use modes::log_widths::log_width_of;
-use rate_bands::Frame;
+use rate_bands::AllocCounts;
 ghost use mathlib.Core.Path.{_≡_};
 ghost use Prim.Native.Nat.{_+_, _-_, _*_, _^_, _≤_, _<_};
 ghost use Rattle.modes.specs.Edges.{edge};
 ghost use Rattle.modes.specs.LogWidths.{logWidth};
-ghost use Rattle.rate_def.specs.Split.{splitOf};
-ghost use Rattle.rate_bands.specs.Frame.{FrameIn};
-ghost use Rattle.rate_split.specs.Parts.{asBand, shareOf, withShare, degreesOf};
+ghost use Rattle.rate_spec.specs.Split.{splitOf};
+ghost use Rattle.rate_bands.specs.Inputs.{AllocCountsOk};
+ghost use Rattle.rate_split.specs.Splits.{asBand, shareOf, withShare, degreesOf};
 
 // The shares of what is left over the bands start..coded-1.
 pub fn share_of(start: usize, coded: usize, left: u32) -> Share
@@ -37,11 +37,11 @@ fn spread_of(g: Share, b: u32, lo: u32, hi: u32) -> u32
 {
     let w = hi - lo;
     let m = g.each * w;
-    b + m + min32(less(g.rest, lo - g.first), w)
+    b + m + min32(saturating_sub(g.rest, lo - g.first), w)
 }
 
 // The degrees of freedom of band j, which has n coefficients.
-fn degrees_of(f: Frame, n: u32, j: usize, intensity: usize, dual: bool) -> u32
+fn degrees_of(f: AllocCounts, n: u32, j: usize, intensity: usize, dual: bool) -> u32
     requires { ⌜ (1 ≤ f .c) × (f .c ≤ 2) × (1 ≤ n) × (n ≤ 176) ⌝ }
     ensures { λ r. ⌜ (r ≡ degreesOf (f .c) n intensity dual j) × (1 ≤ r) × (r ≤ 353) ⌝ }
 {
@@ -55,7 +55,7 @@ fn degrees_of(f: Frame, n: u32, j: usize, intensity: usize, dual: bool) -> u32
 
 // Band j, from edge lo to edge hi, with b bits and its share, and `balance` from the band below.
 pub fn part_of(
-    f: Frame,
+    f: AllocCounts,
     g: Share,
     cap: u32,
     b: u32,
@@ -65,11 +65,12 @@ pub fn part_of(
     intensity: usize,
     dual: bool,
     balance: u32,
-) -> Part
-    requires { ⌜ FrameIn f × (j < 21) × (lo ≡ edge j) × (hi ≡ edge (j + 1)) × (g .first ≤ lo) × (withShare g b lo hi + balance ≤ 81600) ⌝ }
+) -> BandSplit
+    requires { ⌜ AllocCountsOk f × (j < 21) × (lo ≡ edge j) × (hi ≡ edge (j + 1)) × (g .first ≤ lo) × (withShare g b lo hi + balance ≤ 81600) ⌝ }
     ensures { λ r.
         ⌜ (asBand r
-        ≡ splitOf (f .c) ((hi - lo) * 2 ^ f .lm) (degreesOf (f .c) ((hi - lo) * 2 ^ f .lm) intensity dual j) (logWidth j + 8 * f .lm) cap (withShare g b lo hi + balance) balance)
+        ≡ splitOf (f .c) ((hi - lo) * 2 ^ f .lm) (degreesOf (f .c) ((hi - lo) * 2 ^ f .lm) intensity dual j) (logWidth j + 8 * f .lm) cap
+        (withShare g b lo hi + balance) balance)
         × (r .prio ≤ 1) ⌝ }
 {
     let n = (hi - lo) * pow2(f.lm);

@@ -1,14 +1,14 @@
 // One band's bits between fine energy and pulses. The band has n coefficients, den degrees of freedom over all channels, and lg is the
 // logarithm of n in eighths.
-use crate::Part;
-use laws::less;
+use crate::BandSplit;
 use laws::min32;
+use laws::saturating_sub;
 ghost use mathlib.Core.Path.{_≡_};
 ghost use mathlib.Core.Bool.{cond};
 ghost use Prim.Native.Nat.{_+_, _-_, _*_, _/_, _≤_, min};
 ghost use lib.Dec.{leb, ltb, eqb};
-ghost use Rattle.rate_def.specs.Split.{withOffset, extra, spill, fineOf, prioOf, splitOf};
-ghost use Rattle.rate_split.specs.Parts.{asBand, Sized};
+ghost use Rattle.rate_spec.specs.Split.{withOffset, extra, spill, fineOf, prioOf, splitOf};
+ghost use Rattle.rate_split.specs.Splits.{asBand, Sized};
 
 // b bits with the offset, and 21 · den above it, before the correction for few bits.
 fn base_of(b: u32, n: u32, den: u32, lg: u32) -> u32
@@ -45,7 +45,7 @@ fn wanted_of(x: u32, den: u32) -> u32
     requires { ⌜ (1 ≤ den) × (den ≤ 353) ⌝ }
     ensures { λ r. ⌜ (r ≡ (x - 17 * den) / den / 8) × (r ≤ 536870911) ⌝ }
 {
-    less(x, 17 * den) / den / 8
+    saturating_sub(x, 17 * den) / den / 8
 }
 
 // At most what b bits pay for, and at most 8.
@@ -77,12 +77,12 @@ fn extra_of(c: u32, fine: u32, excess: u32) -> u32
 }
 
 // The excess over the cap spent on further fine bits, and the rest handed on.
-fn spill_of(c: u32, pulses: u32, fine: u32, prio: u32, excess: u32, balance: u32) -> Part
+fn spill_of(c: u32, pulses: u32, fine: u32, prio: u32, excess: u32, balance: u32) -> BandSplit
     requires { ⌜ (1 ≤ c) × (c ≤ 2) × (fine ≤ 8) × (prio ≤ 1) × (balance ≤ 81600) ⌝ }
     ensures { λ r. ⌜ (asBand r ≡ spill c pulses fine prio excess balance) × (r .prio ≤ 1) ⌝ }
 {
     if excess == 0 {
-        return Part {
+        return BandSplit {
             pulses: pulses,
             fine: fine,
             prio: prio,
@@ -92,14 +92,14 @@ fn spill_of(c: u32, pulses: u32, fine: u32, prio: u32, excess: u32, balance: u32
     let f = extra_of(c, fine, excess);
     let used = 8 * c * f;
     if excess <= used + balance {
-        Part {
+        BandSplit {
             pulses: pulses,
             fine: fine + f,
             prio: 1,
             balance: excess - used,
         }
     } else {
-        Part {
+        BandSplit {
             pulses: pulses,
             fine: fine + f,
             prio: 0,
@@ -109,7 +109,7 @@ fn spill_of(c: u32, pulses: u32, fine: u32, prio: u32, excess: u32, balance: u32
 }
 
 // A band of more than one coefficient, of b bits up to its cap.
-fn wide_of(c: u32, n: u32, den: u32, lg: u32, b: u32, excess: u32, balance: u32) -> Part
+fn wide_of(c: u32, n: u32, den: u32, lg: u32, b: u32, excess: u32, balance: u32) -> BandSplit
     requires { ⌜ Sized c den lg × (b ≤ 81600) × (balance ≤ 81600) ⌝ }
     ensures { λ r. ⌜ (asBand r ≡ spill c (b - 8 * c * fineOf c n den lg b) (fineOf c n den lg b) (prioOf c n den lg b) excess balance) × (r .prio ≤ 1) ⌝ }
 {
@@ -120,13 +120,21 @@ fn wide_of(c: u32, n: u32, den: u32, lg: u32, b: u32, excess: u32, balance: u32)
 }
 
 // x bits, of them `balance` from the band below.
-pub fn split_of(c: u32, n: u32, den: u32, lg: u32, cap: u32, x: u32, balance: u32) -> Part
+pub fn split_of(c: u32, n: u32, den: u32, lg: u32, cap: u32, x: u32, balance: u32) -> BandSplit
     requires { ⌜ Sized c den lg × (x ≤ 81600) × (balance ≤ 81600) ⌝ }
     ensures { λ r. ⌜ (asBand r ≡ splitOf c n den lg cap x balance) × (r .prio ≤ 1) ⌝ }
 {
     if 1 < n {
-        wide_of(c, n, den, lg, min32(x, cap), less(x, cap), balance)
+        wide_of(
+            c,
+            n,
+            den,
+            lg,
+            min32(x, cap),
+            saturating_sub(x, cap),
+            balance,
+        )
     } else {
-        spill_of(c, min32(x, 8 * c), 0, 1, less(x, 8 * c), balance)
+        spill_of(c, min32(x, 8 * c), 0, 1, saturating_sub(x, 8 * c), balance)
     }
 }

@@ -3,14 +3,14 @@ use Prim.Native.Nat.{ℕ, zero, suc, _+_, _-_, _*_, _/_, _^_, _≤_, _<_}
 use mathlib.Core.Bool.{Bool, true, false}
 use mathlib.Core.Path.{_≡_, refl, sym, _∙_, ap}
 use native.Mathlib.Omega.{arith}
-use lib.Dec.{leb}
 use borrow.Author.Tests.{le-leb}
 use Rattle.laws.proofs.Powers.{pow-half, pow-some}
-use Rattle.rate_def.specs.Trials.{halve}
-use Rattle.rate_def.proofs.Loops.{halve-over, halve-under}
+use Rattle.rate_spec.specs.Trials.{halve}
+use Rattle.rate_spec.proofs.Loops.{halve-over, halve-under}
 
 -- of a search from lo₀ and hi₀ in at most n trials: `trials` were made, lo and hi are left
 module _ (over : ℕ → Bool) (n lo₀ hi₀ : ℕ) where
+  -- what is left of the search: its ends are no more than a power of 2 apart, and it will find and count what the whole one does
   pub record Search (lo hi trials : ℕ) : Type 0 where
     pub apart : lo < hi
     pub hi-le : hi ≤ hi₀
@@ -19,6 +19,7 @@ module _ (over : ℕ → Bool) (n lo₀ hi₀ : ℕ) where
     pub found-is : halve over (n - trials) lo hi .0 ≡ halve over n lo₀ hi₀ .0
     pub count-is : trials + halve over (n - trials) lo hi .1 ≡ halve over n lo₀ hi₀ .1
 
+  -- before the first trial
   pub search-start : lo₀ < hi₀ → hi₀ ≤ lo₀ + 2 ^ n → Search lo₀ hi₀ 0
   search-start h g =
       let e : n - 0 ≡ n = omega arith in
@@ -44,6 +45,7 @@ module _ (over : ℕ → Bool) (n lo₀ hi₀ : ℕ) where
           let e : n - trials - 1 ≡ n - (trials + 1) = omega arith in
           pow-half (n - trials) (some-left h) ∙ ap (λ (k : ℕ). 2 * 2 ^ k) e
 
+      -- after a trial that is over
       pub search-over : over ((lo + hi) / 2) ≡ true → Search lo ((lo + hi) / 2) (trials + 1)
       search-over o =
           let e = halve-over over (n - (trials + 1)) lo hi h o in
@@ -56,6 +58,7 @@ module _ (over : ℕ → Bool) (n lo₀ hi₀ : ℕ) where
             count-is = omega (arith, ap (λ (r : ℕ × ℕ). r .1) e, rw next at (s .count-is));
           }
 
+      -- after one that is within
       pub search-under : over ((lo + hi) / 2) ≡ false → Search ((lo + hi) / 2) hi (trials + 1)
       search-under o =
           let e = halve-under over (n - (trials + 1)) lo hi h o in
@@ -73,8 +76,10 @@ module _ (over : ℕ → Bool) (n lo₀ hi₀ : ℕ) where
     none-left zero h = refl
     none-left (suc k) h = rw (le-leb hi (suc lo) h)
 
+    -- neighbours: lo is what the whole search finds
     pub search-found : hi ≤ suc lo → lo ≡ halve over n lo₀ hi₀ .0
     search-found h = sym (ap (λ (r : ℕ × ℕ). r .0) (none-left (n - trials) h)) ∙ s .found-is
 
+    -- and the trials made are all of them
     pub search-count : hi ≤ suc lo → trials ≡ halve over n lo₀ hi₀ .1
     search-count h = omega (arith, ap (λ (r : ℕ × ℕ). r .1) (none-left (n - trials) h), s .count-is)

@@ -1,6 +1,6 @@
 -- The laws of the loops that the code's proofs share.
-pub mod Turns
+pub mod Points
 pub mod Parts
 pub mod Halving
-pub mod Mixing
+pub mod LastPass
 pub mod Settling

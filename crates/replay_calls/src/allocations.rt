@@ -1,23 +1,25 @@
 // Whole allocations as public calls: from place 28 on stand the offsets, the caps and the bytes.
+use rate::AllocNumbers;
 use rate::AllocRead;
 use rate::AllocWrote;
+use rate::Wishes;
 use replay_io::list::at;
 use replay_io::list::bytes_of;
 use replay_io::list::length_at;
 use replay_io::list::part;
+use replay_io::reply;
 use replay_io::say::hex;
 use replay_io::say::list;
 use replay_io::say::numbers;
 use replay_io::say::text;
-use replay_state::say;
 
 // What was read beside the lists.
 fn say_read(answer: AllocRead) {
     match answer {
-        AllocRead::Got(y) => {
+        AllocRead::Done(y) => {
             let next = y.next;
             text(b"R");
-            say::reader(next);
+            reply::reader(next);
             list(b" |", &[y.coded, y.balance, y.intensity, y.dual]);
         }
         AllocRead::Refused(no) => numbers(b"X", &[no]),
@@ -27,13 +29,35 @@ fn say_read(answer: AllocRead) {
 // What was written beside lists and bytes.
 fn say_written(answer: AllocWrote) {
     match answer {
-        AllocWrote::Got(y) => {
+        AllocWrote::Done(y) => {
             let next = y.next;
             text(b"W");
-            say::writer(next);
+            reply::writer(next);
             list(b" |", &[y.coded, y.balance, y.intensity, y.dual]);
         }
         AllocWrote::Refused(no) => numbers(b"X", &[no]),
+    }
+}
+
+// The allocation's numbers.
+fn asked(l: &[i32]) -> AllocNumbers {
+    AllocNumbers {
+        c: at(l, 12),
+        lm: at(l, 13),
+        start: at(l, 14),
+        end: at(l, 15),
+        trim: at(l, 16),
+        total: at(l, 17),
+    }
+}
+
+// The encoder's wishes.
+fn wished(l: &[i32]) -> Wishes {
+    Wishes {
+        intensity: at(l, 18),
+        dual: at(l, 19),
+        previous: at(l, 20),
+        bandwidth: at(l, 21),
     }
 }
 
@@ -48,14 +72,9 @@ fn read(
     priorities: &mut [i32],
 ) {
     let answer = rate::clt_compute_allocation_read(
-        replay_state::reader_of(l),
+        replay_io::state::reader_of(l),
         s,
-        at(l, 12),
-        at(l, 13),
-        at(l, 14),
-        at(l, 15),
-        at(l, 16),
-        at(l, 17),
+        asked(l),
         offsets,
         caps,
         pulses,
@@ -76,18 +95,10 @@ fn write(
     priorities: &mut [i32],
 ) {
     let answer = rate::clt_compute_allocation_write(
-        replay_state::writer_of(l),
+        replay_io::state::writer_of(l),
         s,
-        at(l, 12),
-        at(l, 13),
-        at(l, 14),
-        at(l, 15),
-        at(l, 16),
-        at(l, 17),
-        at(l, 18),
-        at(l, 19),
-        at(l, 20),
-        at(l, 21),
+        asked(l),
+        wished(l),
         offsets,
         caps,
         pulses,

@@ -5,11 +5,11 @@ use replay_io::list::at;
 use replay_io::list::bytes_of;
 use replay_io::list::length_at;
 use replay_io::list::part;
+use replay_io::reply;
 use replay_io::say::floats;
 use replay_io::say::numbers;
 use replay_io::say::text;
-use replay_state::reader_of;
-use replay_state::say;
+use replay_io::state::reader_of;
 
 // E: coarse energies are decoded.
 fn coarse(l: &[i32], s: &[u8], energies: &mut [f32]) -> EnergyRead {
@@ -60,9 +60,9 @@ fn call(letter: u8, l: &[i32], s: &[u8], energies: &mut [f32]) -> EnergyRead {
 // What a call says beside the energies.
 fn say_answer(letter: u8, answer: EnergyRead) {
     match answer {
-        EnergyRead::Got(next) => {
+        EnergyRead::Done(next) => {
             text(&[letter]);
-            say::reader(next);
+            reply::reader(next);
         }
         EnergyRead::Refused(no) => numbers(b"X", &[no]),
     }

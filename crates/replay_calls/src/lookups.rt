@@ -1,12 +1,12 @@
 // The allocation's lookups as public calls.
-use rate_cache::Answer;
+use rate_cache::LookupAnswer;
 use replay_io::list::at;
+use replay_io::reply;
 use replay_io::say::numbers;
 use replay_io::say::text;
-use replay_state::say;
 
 // G: get_pulses. B: bits2pulses. b: pulses2bits.
-fn found(letter: u8, l: &[i32]) -> Answer {
+fn found(letter: u8, l: &[i32]) -> LookupAnswer {
     match letter {
         b'G' => rate_cache::get_pulses(at(l, 0)),
         b'B' => rate_cache::bits2pulses(at(l, 0), at(l, 1), at(l, 2)),
@@ -17,10 +17,10 @@ fn found(letter: u8, l: &[i32]) -> Answer {
 // A lookup and its line.
 pub fn ask(letter: u8, l: &[i32]) {
     match found(letter, l) {
-        Answer::Found(v) => {
+        LookupAnswer::Done(v) => {
             numbers(&[letter], &[v]);
             text(b"\n");
         }
-        Answer::Refused(no) => say::refused(no),
+        LookupAnswer::Refused(no) => reply::refused(no),
     }
 }

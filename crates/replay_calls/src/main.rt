@@ -7,7 +7,7 @@ mod shapes;
 
 use replay_io::input;
 use replay_io::list;
-use replay_state::say;
+use replay_io::reply;
 
 // A request by its letter and its numbers.
 fn ask(letter: u8, l: &[i32]) {
@@ -16,7 +16,7 @@ fn ask(letter: u8, l: &[i32]) {
         b'E' | b'F' => energies::ask(letter, l),
         b'U' => shapes::ask(l),
         b'G' | b'B' | b'b' => lookups::ask(letter, l),
-        _ => say::malformed(),
+        _ => reply::malformed(),
     }
 }
 
@@ -26,7 +26,7 @@ fn step(line: &[u8], n: usize) {
     let request = input::first(line, n);
     let count = list::read(request, 1, &mut l);
     if 1384 < count {
-        return say::malformed();
+        return reply::malformed();
     }
     ask(input::byte(request, 0), &l)
 }

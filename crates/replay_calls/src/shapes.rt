@@ -5,19 +5,19 @@ use replay_io::list::bytes_of;
 use replay_io::list::length_at;
 use replay_io::list::part;
 use replay_io::list::word;
+use replay_io::reply;
 use replay_io::say::floats;
 use replay_io::say::numbers;
 use replay_io::say::text;
-use replay_state::say;
 use vq::Shaped;
 
 // What the call says beside the shape.
 fn say_answer(answer: Shaped) {
     match answer {
-        Shaped::Got(r) => {
+        Shaped::Done(r) => {
             let next = r.next;
             numbers(b"U", &[r.mask]);
-            say::reader(next);
+            reply::reader(next);
         }
         Shaped::Refused(no) => numbers(b"X", &[no]),
     }
@@ -26,7 +26,7 @@ fn say_answer(answer: Shaped) {
 // The call over these bytes and places, and its line.
 fn call(l: &[i32], s: &[u8], shape: &mut [f32]) {
     let answer = vq::alg_unquant(
-        replay_state::reader_of(l),
+        replay_io::state::reader_of(l),
         s,
         shape,
         at(l, 11),

@@ -2,24 +2,24 @@
 use crate::Coder;
 use entdec::Reader;
 use entdec::Started;
-use entenc::Answer;
+use entenc::WriteAnswer;
 use entenc::Writer;
 use replay_io::list::word;
+use replay_io::reply;
 use replay_io::say::text;
-use replay_state::say;
 
 // A writer's answer and its line; a refusal leaves the coder as it was.
-pub fn wrote(letter: u8, a: Answer, s: &[u8], old: Coder) -> Coder {
+pub fn wrote(letter: u8, a: WriteAnswer, s: &[u8], old: Coder) -> Coder {
     match a {
-        Answer::Next(w) => {
+        WriteAnswer::Done(w) => {
             text(&[letter]);
-            say::writer(w);
-            say::bytes(s, w.closed);
+            reply::writer(w);
+            reply::bytes(s, w.closed);
             text(b"\n");
             Coder::Writing(w)
         }
-        Answer::Refused(no) => {
-            say::refused(no);
+        WriteAnswer::Refused(no) => {
+            reply::refused(no);
             old
         }
     }
@@ -28,12 +28,12 @@ pub fn wrote(letter: u8, a: Answer, s: &[u8], old: Coder) -> Coder {
 // A new reader and its line.
 fn opened(letter: u8, a: Started, old: Coder) -> Coder {
     match a {
-        Started::At(r) => {
-            say::opened(letter, r);
+        Started::Done(r) => {
+            reply::opened(letter, r);
             Coder::Reading(r)
         }
         Started::Refused(no) => {
-            say::refused(no);
+            reply::refused(no);
             old
         }
     }
@@ -59,8 +59,13 @@ pub fn begin(letter: u8, l: &[i32], s: &mut [u8], old: Coder) -> Coder {
     match letter {
         b'S' => start(l, s, old),
         b'O' => opened(b'O', Reader::new(s), old),
-        b'K' => wrote(b'K', Answer::Next(replay_state::writer_of(l)), s, old),
-        _ => opened(b'k', Started::At(replay_state::reader_of(l)), old),
+        b'K' => wrote(
+            b'K',
+            WriteAnswer::Done(replay_io::state::writer_of(l)),
+            s,
+            old,
+        ),
+        _ => opened(b'k', Started::Done(replay_io::state::reader_of(l)), old),
     }
 }
 
@@ -71,6 +76,6 @@ pub fn damage(l: &[i32], s: &mut [u8], old: Coder) -> Coder {
         s[at] = (word(l, 1) % 256) as u8;
         return old;
     }
-    say::malformed();
+    reply::malformed();
     old
 }

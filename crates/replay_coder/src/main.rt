@@ -10,7 +10,7 @@ use entenc::Writer;
 use replay_io::input;
 use replay_io::list;
 use replay_io::list::word;
-use replay_state::say;
+use replay_io::reply;
 
 // Who works on the bytes.
 pub enum Coder {
@@ -19,8 +19,8 @@ pub enum Coder {
     Reading(Reader),
 }
 
-// Where the program stands: how many bytes are lent, the table's symbols and their ftb, the pair of Laplace values, and the coder.
-pub struct Now {
+// The program's state: how many bytes are lent, the table's symbols and their ftb, the pair of Laplace values, and the coder.
+pub struct State {
     pub lent: usize,
     pub symbols: usize,
     pub ftb: u32,
@@ -30,8 +30,8 @@ pub struct Now {
 }
 
 // Before the first request.
-fn fresh() -> Now {
-    Now {
+fn fresh() -> State {
+    State {
         lent: 0,
         symbols: 0,
         ftb: 0,
@@ -41,9 +41,9 @@ fn fresh() -> Now {
     }
 }
 
-impl Now {
+impl State {
     // S lends so many bytes; after any other request they stay.
-    fn lending(mut self, letter: u8, l: &[i32], most: usize) -> Now {
+    fn with_lent(mut self, letter: u8, l: &[i32], most: usize) -> State {
         if letter == b'S' {
             self.lent = list::length_at(l, 0, most);
         }
@@ -51,7 +51,7 @@ impl Now {
     }
 
     // T: another table. Its ftb stands before its entries.
-    fn tabled(mut self, count: usize, ftb: u32) -> Now {
+    fn with_table(mut self, count: usize, ftb: u32) -> State {
         if 0 < count {
             self.symbols = count - 1;
         }
@@ -60,15 +60,15 @@ impl Now {
     }
 
     // P: another pair.
-    fn paired(mut self, fs: u32, decay: u32) -> Now {
+    fn with_pair(mut self, fs: u32, decay: u32) -> State {
         self.fs = fs;
         self.decay = decay;
         self
     }
 
-    // Another coder.
-    fn turned(self, coder: Coder) -> Now {
-        Now {
+    // A coder that a request left.
+    fn with_coder(self, coder: Coder) -> State {
+        State {
             lent: self.lent,
             symbols: self.symbols,
             ftb: self.ftb,
@@ -86,13 +86,13 @@ fn write_on(
     s: &mut [u8],
     t: &[u8],
     places: &[i32],
-    now: Now,
+    state: State,
     w: Writer,
 ) -> Coder {
     match letter {
-        b'L' => values::put(list::at(l, 0), s, now.fs, now.decay, w),
+        b'L' => values::put(list::at(l, 0), s, state.fs, state.decay, w),
         b'W' => vectors::put(l, s, places, w),
-        _ => symbols::write(letter, l, s, t, now.ftb, w),
+        _ => symbols::write(letter, l, s, t, state.ftb, w),
     }
 }
 
@@ -103,36 +103,36 @@ fn read_on(
     s: &[u8],
     t: &[u8],
     places: &mut [i32],
-    now: Now,
+    state: State,
     r: Reader,
 ) -> Coder {
     match letter {
-        b'l' => values::get(s, now.fs, now.decay, r),
+        b'l' => values::get(s, state.fs, state.decay, r),
         b'w' => vectors::get(l, s, places, r),
-        _ => symbols::read(letter, l, s, t, now.ftb, r),
+        _ => symbols::read(letter, l, s, t, state.ftb, r),
     }
 }
 
 // A call of the writer or of the reader, whoever works.
-fn call(letter: u8, l: &[i32], s: &mut [u8], t: &[u8], places: &mut [i32], now: Now) -> Coder {
-    let coder = now.coder;
+fn call(letter: u8, l: &[i32], s: &mut [u8], t: &[u8], places: &mut [i32], state: State) -> Coder {
+    let coder = state.coder;
     match coder {
-        Coder::Writing(w) => write_on(letter, l, s, t, places, now, w),
-        Coder::Reading(r) => read_on(letter, l, s, t, places, now, r),
+        Coder::Writing(w) => write_on(letter, l, s, t, places, state, w),
+        Coder::Reading(r) => read_on(letter, l, s, t, places, state, r),
         Coder::Idle => {
-            say::malformed();
+            reply::malformed();
             Coder::Idle
         }
     }
 }
 
 // A request over the bytes that are lent and the table's symbols.
-fn act(letter: u8, l: &[i32], s: &mut [u8], t: &[u8], places: &mut [i32], now: Now) -> Coder {
-    let coder = now.coder;
+fn act(letter: u8, l: &[i32], s: &mut [u8], t: &[u8], places: &mut [i32], state: State) -> Coder {
+    let coder = state.coder;
     match letter {
         b'S' | b'O' | b'K' | b'k' => begin::begin(letter, l, s, coder),
         b'D' => begin::damage(l, s, coder),
-        _ => call(letter, l, s, t, places, now),
+        _ => call(letter, l, s, t, places, state),
     }
 }
 
@@ -143,15 +143,15 @@ fn lend(
     bytes: &mut [u8],
     table: &[u8],
     places: &mut [i32],
-    now: Now,
-) -> Now {
-    let n = now.lent;
+    state: State,
+) -> State {
+    let n = state.lent;
     if bytes.len() < n {
-        return now;
+        return state;
     }
-    let t = input::first(table, now.symbols);
-    let coder = act(letter, l, &mut bytes[..n], t, places, now);
-    now.turned(coder)
+    let t = input::first(table, state.symbols);
+    let coder = act(letter, l, &mut bytes[..n], t, places, state);
+    state.with_coder(coder)
 }
 
 // A request by its letter and its numbers, of which there are so many.
@@ -162,20 +162,20 @@ fn ask(
     bytes: &mut [u8],
     table: &mut [u8],
     places: &mut [i32],
-    now: Now,
-) -> Now {
+    state: State,
+) -> State {
     match letter {
         b'T' => {
             list::bytes_of(list::part(l, 1, 256), table);
-            now.tabled(count, word(l, 0))
+            state.with_table(count, word(l, 0))
         }
-        b'P' => now.paired(word(l, 0), word(l, 1)),
+        b'P' => state.with_pair(word(l, 0), word(l, 1)),
         b'Z' | b'A' => {
             vectors::lay(letter, l, places);
-            now
+            state
         }
         _ => {
-            let on = now.lending(letter, l, bytes.len());
+            let on = state.with_lent(letter, l, bytes.len());
             lend(letter, l, bytes, table, places, on)
         }
     }
@@ -188,14 +188,14 @@ fn step(
     bytes: &mut [u8],
     table: &mut [u8],
     places: &mut [i32],
-    now: Now,
-) -> Now {
+    state: State,
+) -> State {
     let mut l = [0i32; 257];
     let request = input::first(line, n);
     let count = list::read(request, 1, &mut l);
     if 257 < count {
-        say::malformed();
-        return now;
+        reply::malformed();
+        return state;
     }
     ask(
         input::byte(request, 0),
@@ -204,13 +204,13 @@ fn step(
         bytes,
         table,
         places,
-        now,
+        state,
     )
 }
 
 // Answers each line of the input.
 fn run(block: &mut [u8], line: &mut [u8], bytes: &mut [u8], table: &mut [u8], places: &mut [i32]) {
-    let mut now = fresh();
+    let mut state = fresh();
     let mut t = input::begin();
     let mut lines: u32 = 4294967295;
     while 0 < lines {
@@ -218,11 +218,12 @@ fn run(block: &mut [u8], line: &mut [u8], bytes: &mut [u8], table: &mut [u8], pl
         if !t.whole {
             return;
         }
-        now = step(line, t.length, bytes, table, places, now);
+        state = step(line, t.length, bytes, table, places, state);
         lines -= 1;
     }
 }
 
+// The buffers, and the run over them.
 fn main() {
     let mut block = io::large_buffer();
     let mut line = [0u8; 1200];

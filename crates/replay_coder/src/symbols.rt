@@ -4,17 +4,17 @@ use crate::begin::wrote;
 use entdec::Reader;
 use entenc::Writer;
 use replay_io::list::word;
-use replay_state::say;
+use replay_io::reply;
 
 // A write or the close. A letter that is none of them is refused with 0.
-fn put(letter: u8, l: &[i32], s: &mut [u8], t: &[u8], ftb: u32, w: Writer) -> entenc::Answer {
+fn put(letter: u8, l: &[i32], s: &mut [u8], t: &[u8], ftb: u32, w: Writer) -> entenc::WriteAnswer {
     match letter {
         b'B' => w.bit_logp(s, word(l, 0), word(l, 1)),
         b'I' => w.icdf(s, word(l, 0), t, ftb),
         b'U' => w.uint(s, word(l, 0), word(l, 1)),
         b'R' => w.bits(s, word(l, 0), word(l, 1)),
         b'C' => w.close(s),
-        _ => entenc::Answer::Refused(0),
+        _ => entenc::WriteAnswer::Refused(0),
     }
 }
 
@@ -25,13 +25,13 @@ pub fn write(letter: u8, l: &[i32], s: &mut [u8], t: &[u8], ftb: u32, w: Writer)
 }
 
 // A read. A letter that is none is refused with 0.
-fn get(letter: u8, l: &[i32], s: &[u8], t: &[u8], ftb: u32, r: Reader) -> entdec::Answer {
+fn get(letter: u8, l: &[i32], s: &[u8], t: &[u8], ftb: u32, r: Reader) -> entdec::ReadAnswer {
     match letter {
         b'b' => r.bit_logp(s, word(l, 0)),
         b'i' => r.icdf(s, t, ftb),
         b'u' => r.uint(s, word(l, 0)),
         b'r' => r.bits(s, word(l, 0)),
-        _ => entdec::Answer::Refused(0),
+        _ => entdec::ReadAnswer::Refused(0),
     }
 }
 
@@ -39,13 +39,13 @@ fn get(letter: u8, l: &[i32], s: &[u8], t: &[u8], ftb: u32, r: Reader) -> entdec
 pub fn read(letter: u8, l: &[i32], s: &[u8], t: &[u8], ftb: u32, r: Reader) -> Coder {
     let a = get(letter, l, s, t, ftb, r);
     match a {
-        entdec::Answer::Got(g) => {
+        entdec::ReadAnswer::Done(g) => {
             let next = g.next;
-            say::read(letter, g.value, next);
+            reply::read(letter, g.value, next);
             Coder::Reading(next)
         }
-        entdec::Answer::Refused(no) => {
-            say::refused(no);
+        entdec::ReadAnswer::Refused(no) => {
+            reply::refused(no);
             Coder::Reading(r)
         }
     }

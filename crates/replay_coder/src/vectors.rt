@@ -2,14 +2,14 @@
 use crate::Coder;
 use cwrs::Decoded;
 use entdec::Reader;
-use entenc::Answer;
+use entenc::WriteAnswer;
 use entenc::Writer;
 use replay_io::list::at;
 use replay_io::list::word;
+use replay_io::reply;
 use replay_io::say::list;
 use replay_io::say::numbers;
 use replay_io::say::text;
-use replay_state::say;
 
 // Every place becomes 0.
 fn clear(places: &mut [i32]) {
@@ -36,13 +36,13 @@ pub fn lay(letter: u8, l: &[i32], places: &mut [i32]) {
 pub fn put(l: &[i32], s: &mut [u8], places: &[i32], w: Writer) -> Coder {
     let answer = cwrs::encode_pulses(w, s, places, word(l, 0), word(l, 1));
     match answer {
-        Answer::Next(next) => {
+        WriteAnswer::Done(next) => {
             numbers(b"W", &[next.total, next.rng, next.val]);
             text(b"\n");
             Coder::Writing(next)
         }
-        Answer::Refused(no) => {
-            say::refused(no);
+        WriteAnswer::Refused(no) => {
+            reply::refused(no);
             Coder::Writing(w)
         }
     }
@@ -74,7 +74,7 @@ fn say_found(energy: u32, next: Reader, places: &[i32]) {
         b"w",
         &[
             energy,
-            say::mark(next.error),
+            reply::mark(next.error),
             next.total,
             next.rng,
             next.val,
@@ -88,13 +88,13 @@ fn say_found(energy: u32, next: Reader, places: &[i32]) {
 pub fn get(l: &[i32], s: &[u8], places: &mut [i32], r: Reader) -> Coder {
     let answer = cwrs::decode_pulses(r, s, places, word(l, 0), word(l, 1));
     match answer {
-        Decoded::Got(f) => {
+        Decoded::Done(f) => {
             let next = f.next;
             say_found(f.energy, next, places);
             Coder::Reading(next)
         }
         Decoded::Refused(no) => {
-            say::refused(no);
+            reply::refused(no);
             Coder::Reading(r)
         }
     }

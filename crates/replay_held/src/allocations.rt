@@ -1,22 +1,23 @@
 // Allocations.
 use crate::reader;
-use held::AllocStep;
-use held::Allocated;
+use rate::AllocNumbers;
 use rate::AllocRead;
+use reader_held::AllocStep;
+use reader_held::Allocated;
 use replay_io::list::at;
 use replay_io::list::part;
+use replay_io::reply;
 use replay_io::say::list;
 use replay_io::say::numbers;
 use replay_io::say::text;
-use replay_state::say;
 
 // What the call by value answered.
 fn by_value(a: AllocRead) {
     match a {
-        AllocRead::Got(y) => {
+        AllocRead::Done(y) => {
             let next = y.next;
             list(b"A", &[y.coded, y.balance, y.intensity, y.dual]);
-            say::reader(next);
+            reply::reader(next);
         }
         AllocRead::Refused(no) => numbers(b"X", &[no]),
     }
@@ -27,9 +28,9 @@ fn by_held(y: AllocStep) {
     let answer = y.answer;
     let next = y.next;
     match answer {
-        Allocated::Got(a) => {
+        Allocated::Done(a) => {
             list(b"A", &[a.coded, a.balance, a.intensity, a.dual]);
-            say::reader(next);
+            reply::reader(next);
         }
         Allocated::Refused(no) => numbers(b"X", &[no]),
     }
@@ -43,6 +44,18 @@ fn lists(pulses: &[i32], fine: &[i32], priorities: &[i32]) {
     text(b"\n");
 }
 
+// The allocation's numbers.
+fn asked(l: &[i32]) -> AllocNumbers {
+    AllocNumbers {
+        c: at(l, 0),
+        lm: at(l, 1),
+        start: at(l, 2),
+        end: at(l, 3),
+        trim: at(l, 4),
+        total: at(l, 5),
+    }
+}
+
 // By value.
 fn read(l: &[i32], s: &[u8]) {
     let mut pulses = [0i32; 21];
@@ -51,12 +64,7 @@ fn read(l: &[i32], s: &[u8]) {
     let a = rate::clt_compute_allocation_read(
         reader(l),
         s,
-        at(l, 0),
-        at(l, 1),
-        at(l, 2),
-        at(l, 3),
-        at(l, 4),
-        at(l, 5),
+        asked(l),
         part(l, 20, 21),
         part(l, 41, 21),
         &mut pulses,
@@ -72,15 +80,10 @@ fn read_held(l: &[i32], s: &[u8]) {
     let mut pulses = [0i32; 21];
     let mut fine = [0i32; 21];
     let mut priorities = [0i32; 21];
-    let y = held::plain::allocation(
+    let y = reader_held::plain::allocation(
         reader(l),
         s,
-        at(l, 0),
-        at(l, 1),
-        at(l, 2),
-        at(l, 3),
-        at(l, 4),
-        at(l, 5),
+        asked(l),
         part(l, 20, 21),
         part(l, 41, 21),
         &mut pulses,

@@ -1,21 +1,21 @@
 // Coarse energies.
 use crate::reader;
 use entdec::Reader;
-use held::Energies;
-use held::EnergiesStep;
 use quant_bands::EnergyRead;
+use reader_held::Energies;
+use reader_held::EnergiesStep;
 use replay_io::floats::floats_of;
 use replay_io::list::at;
 use replay_io::list::part;
+use replay_io::reply;
 use replay_io::say::floats;
 use replay_io::say::numbers;
 use replay_io::say::text;
-use replay_state::say;
 
 // A letter, a number, which is 0 or a refusal's, and the reader after it.
-pub fn told(letter: u8, code: u32, next: Reader) {
+pub fn say_energies(letter: u8, code: u32, next: Reader) {
     numbers(&[letter], &[code]);
-    say::reader(next);
+    reply::reader(next);
 }
 
 // Energies, and the end of the line.
@@ -28,8 +28,8 @@ pub fn ended(x: &[f32]) {
 // What the call by value answered to d.
 fn by_value(d: Reader, a: EnergyRead) {
     match a {
-        EnergyRead::Got(next) => told(b'E', 0, next),
-        EnergyRead::Refused(no) => told(b'E', no, d),
+        EnergyRead::Done(next) => say_energies(b'E', 0, next),
+        EnergyRead::Refused(no) => say_energies(b'E', no, d),
     }
 }
 
@@ -38,8 +38,8 @@ fn by_held(y: EnergiesStep) {
     let answer = y.answer;
     let next = y.next;
     match answer {
-        Energies::Done => told(b'E', 0, next),
-        Energies::Refused(no) => told(b'E', no, next),
+        Energies::Done => say_energies(b'E', 0, next),
+        Energies::Refused(no) => say_energies(b'E', no, next),
     }
 }
 
@@ -66,7 +66,7 @@ fn read(l: &[i32], s: &[u8]) {
 fn read_held(l: &[i32], s: &[u8]) {
     let mut x = [0.0f32; 42];
     floats_of(part(l, 20, 42), &mut x);
-    let y = held::plain::coarse(
+    let y = reader_held::plain::coarse(
         reader(l),
         s,
         &mut x,

@@ -1,10 +1,8 @@
 // Frames on a record.
 use crate::energies::ended;
-use crate::energies::told;
+use crate::energies::say_energies;
 use crate::reader;
 use entdec::Reader;
-use lent::Applied;
-use lent::AppliedStep;
 use replay_io::floats::floats_of;
 use replay_io::list::at;
 use replay_io::list::part;
@@ -12,6 +10,8 @@ use replay_io::list::word;
 use replay_io::say::numbers;
 use stream::Framed;
 use stream::Record;
+use stream_lent::Applied;
+use stream_lent::AppliedStep;
 
 // The record of a request: its next number, and the energies that are listed.
 fn record(l: &[i32]) -> Record {
@@ -34,15 +34,15 @@ fn recorded(r: Record) {
 fn framed(y: Framed) {
     let next = y.next;
     let rec = y.rec;
-    told(b'F', y.code, next);
+    say_energies(b'F', y.code, next);
     recorded(rec);
 }
 
 // What the frame on a lent record answered to d.
 fn answered(d: Reader, a: Applied) {
     match a {
-        Applied::Got(next) => told(b'F', 0, next),
-        Applied::Refused(no) => told(b'F', no, d),
+        Applied::Done(next) => say_energies(b'F', 0, next),
+        Applied::Refused(no) => say_energies(b'F', no, d),
     }
 }
 
@@ -70,7 +70,7 @@ fn apply(l: &[i32], s: &[u8]) -> Framed {
 
 // On a lent record.
 fn apply_lent(l: &[i32], s: &[u8]) -> AppliedStep {
-    lent::plain::frame(
+    stream_lent::plain::frame(
         record(l),
         reader(l),
         s,

@@ -10,11 +10,11 @@ mod values;
 use entdec::Reader;
 use replay_io::input;
 use replay_io::list;
-use replay_state::say;
+use replay_io::reply;
 
 // The reader of a request.
 pub fn reader(l: &[i32]) -> Reader {
-    replay_state::reader_of(list::part(l, 8, 11))
+    replay_io::state::reader_of(list::part(l, 8, 11))
 }
 
 // The call that a request's letter names, by value and then held.
@@ -49,7 +49,7 @@ fn step(line: &[u8], n: usize) {
     let request = input::first(line, n);
     let count = list::read(request, 1, &mut l);
     if 1338 < count {
-        return say::malformed();
+        return reply::malformed();
     }
     ask(input::byte(request, 0), &l)
 }

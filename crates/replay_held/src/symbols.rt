@@ -1,24 +1,24 @@
 // Symbols and a new reader.
 use crate::reader;
-use entdec::Answer;
+use entdec::ReadAnswer;
 use entdec::Reader;
 use entdec::Started;
-use held::Begun;
-use held::Step;
-use held::Symbol;
-use held::plain;
+use reader_held::Begun;
+use reader_held::Step;
+use reader_held::Symbol;
+use reader_held::plain;
 use replay_io::list;
 use replay_io::list::word;
-use replay_state::say;
+use replay_io::reply;
 
 // What a call by value answered.
-fn by_value(letter: u8, a: Answer) {
+fn by_value(letter: u8, a: ReadAnswer) {
     match a {
-        Answer::Got(y) => {
+        ReadAnswer::Done(y) => {
             let next = y.next;
-            say::read(letter, y.value, next);
+            reply::read(letter, y.value, next);
         }
-        Answer::Refused(no) => say::refused(no),
+        ReadAnswer::Refused(no) => reply::refused(no),
     }
 }
 
@@ -27,13 +27,13 @@ fn by_held(letter: u8, y: Step) {
     let answer = y.answer;
     let next = y.next;
     match answer {
-        Symbol::Got(v) => say::read(letter, v, next),
-        Symbol::Refused(no) => say::refused(no),
+        Symbol::Done(v) => reply::read(letter, v, next),
+        Symbol::Refused(no) => reply::refused(no),
     }
 }
 
 // A bit, a number or raw bits, by value.
-fn asked(letter: u8, d: Reader, s: &[u8], p: u32) -> Answer {
+fn asked(letter: u8, d: Reader, s: &[u8], p: u32) -> ReadAnswer {
     match letter {
         b'b' => d.bit_logp(s, p),
         b'u' => d.uint(s, p),
@@ -77,8 +77,8 @@ pub fn table(l: &[i32], s: &[u8]) {
 // A new reader by value.
 fn started(a: Started) {
     match a {
-        Started::At(d) => say::opened(b'O', d),
-        Started::Refused(no) => say::refused(no),
+        Started::Done(d) => reply::opened(b'O', d),
+        Started::Refused(no) => reply::refused(no),
     }
 }
 
@@ -86,9 +86,9 @@ fn started(a: Started) {
 fn begun(y: Begun) {
     let num = y.num;
     if y.code == 0 {
-        return say::opened(b'O', num);
+        return reply::opened(b'O', num);
     }
-    say::refused(y.code)
+    reply::refused(y.code)
 }
 
 // O: a new reader of the packet.

@@ -1,6 +1,7 @@
 // Floats of a line, by their bits.
 use super::list::word;
-use super::push_hex;
+use super::push_all;
+use text::write::hex_word;
 
 // The f32 of these bits: a NaN where they are one's.
 pub fn float_of(bits: u32) -> f32 {
@@ -25,17 +26,14 @@ fn bits_of(x: f32) -> u32 {
     if x == x { f32::to_bits(x) } else { 0x7fc0_0000 }
 }
 
-// The text with the eight hex figures of an f32's bits after it.
+// The text with the eight hex digits of an f32's bits after it.
 fn push_float(out: &mut [u8], n: usize, x: f32) -> usize {
-    let v = bits_of(x);
-    let a = (v / 16777216) as u8;
-    let b = (v / 65536 % 256) as u8;
-    let c = (v / 256 % 256) as u8;
-    let d = (v % 256) as u8;
-    push_hex(out, n, &[a, b, c, d])
+    let mut word = [0u8; 8];
+    hex_word(bits_of(x), &mut word, 0);
+    push_all(out, n, &word)
 }
 
-// The text with those of each f32 after it.
+// The text with the digits of each f32 after it.
 pub fn push_floats(out: &mut [u8], n: usize, x: &[f32]) -> usize {
     let mut k = n;
     let mut i = 0;

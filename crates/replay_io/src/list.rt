@@ -1,7 +1,6 @@
 // Lists of whole numbers on a line.
-use super::Field;
-use super::Number;
-use super::figures_at;
+use text::Number;
+use text::read::number;
 ghost use Prim.Native.Nat.{_≤_};
 
 // A number of a line and the place after it.
@@ -29,29 +28,55 @@ fn kept(n: u32) -> i32 {
     }
 }
 
-// A number without a minus before it.
-fn plain(f: Field) -> Entry {
-    match f {
-        Field::Is(x) => Entry {
-            value: kept(x.value),
-            next: x.next,
+// A number without a minus before it, and the place after it.
+fn plain(n: Number, next: usize) -> Entry {
+    match n {
+        Number::Got(v) => Entry {
+            value: kept(v),
+            next,
             good: true,
         },
-        Field::Missing => none(),
+        Number::Bad => none(),
     }
 }
 
-// A number whose minus was read.
-fn below_zero(x: Number) -> Entry {
-    if x.value <= 2147483648 {
-        Entry {
-            value: laws::value_of(true, x.value),
-            next: x.next,
-            good: true,
+// A number whose minus was read, and the place after it.
+fn below_zero(n: Number, next: usize) -> Entry {
+    match n {
+        Number::Got(v) => {
+            if v <= 2147483648 {
+                return Entry {
+                    value: laws::value_of(true, v),
+                    next,
+                    good: true,
+                };
+            }
+            none()
         }
-    } else {
-        none()
+        Number::Bad => none(),
     }
+}
+
+// The place of the first blank from a place on, or the end.
+fn end_of(s: &[u8], from: usize) -> usize {
+    let mut i = from;
+    while i < s.len() {
+        if s[i] == b' ' {
+            return i;
+        }
+        i += 1;
+    }
+    i
+}
+
+// The number 0..4,294,967,295 that stands from one place up to another.
+fn number_in(s: &[u8], from: usize, end: usize) -> Number {
+    if end <= s.len() {
+        if from <= end {
+            return number(&s[from..end], 4294967295);
+        }
+    }
+    Number::Bad
 }
 
 // The number after the blank at a place: -2,147,483,648..4,294,967,295.
@@ -62,13 +87,11 @@ fn entry_at(s: &[u8], at: usize) -> Entry {
     if s[at] != b' ' {
         return none();
     }
-    if laws::byte_at(s, at + 1) != 45 {
-        return plain(figures_at(s, at + 1));
+    let end = end_of(s, at + 1);
+    if laws::byte_at(s, at + 1) == 45 {
+        return below_zero(number_in(s, at + 2, end), end);
     }
-    match figures_at(s, at + 2) {
-        Field::Is(x) => below_zero(x),
-        Field::Missing => none(),
-    }
+    plain(number_in(s, at + 1, end), end)
 }
 
 // The numbers of a line from a place on go into the list; how many, or more than the list holds where the line is malformed or longer.
@@ -99,7 +122,7 @@ pub fn at(list: &[i32], i: usize) -> i32 {
 // The same, as a number from 0 to 4,294,967,295.
 pub fn word(list: &[i32], i: usize) -> u32 {
     let v = at(list, i);
-    let n = laws::size(v);
+    let n = laws::unsigned_abs(v);
     if v < 0 {
         std::num::wrapping_sub_u32(0, n)
     } else {

@@ -2,6 +2,7 @@
 use super::floats::push_floats;
 use super::input::first;
 use super::push_all;
+use super::push_decimal;
 use super::push_hex;
 use super::push_number;
 
@@ -29,21 +30,14 @@ pub fn numbers(before: &[u8], v: &[u32]) {
     text(first(&out, n));
 }
 
-// The figures of v in decimal.
-fn push_figures(out: &mut [u8], n: usize, v: u32) -> usize {
-    let mut figures = [0u8; 20];
-    let count = io::decimal(v as u64, &mut figures);
-    push_all(out, n, &figures[..count])
-}
-
 // The text with a blank and v in decimal after it, a minus before a negative number.
 fn push_signed(out: &mut [u8], n: usize, v: i32) -> usize {
-    let size = laws::size(v);
+    let size = laws::unsigned_abs(v);
     if 0 <= v {
         return push_number(out, n, size);
     }
     let k = push_all(out, n, b" -");
-    push_figures(out, k, size)
+    push_decimal(out, k, size)
 }
 
 // The text with each number of a list after it.
@@ -73,7 +67,7 @@ pub fn hex(s: &[u8]) {
     text(first(&out, n));
 }
 
-// Each f32 as the eight hex figures of its bits, of which there may be 200.
+// Each f32 as the eight hex digits of its bits, of which there may be 200.
 pub fn floats(x: &[f32]) {
     let mut out = [0u8; 1600];
     let n = push_floats(&mut out, 0, x);

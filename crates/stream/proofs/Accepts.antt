@@ -9,11 +9,11 @@ use lib.IntN.{ℤ}
 use borrow.Author.Tests.{leb-true}
 use Rattle.laws.specs.Signs.{clip}
 use Rattle.entdec.specs.declared.Reader.{Reader}
-use Rattle.quant_bands.specs.Coarse.{Decoded, decoded, coarse}
+use Rattle.quant_bands.specs.Coarse.{EnergiesAfter, energiesAfter, coarse}
 use Rattle.quant_bands.specs.Question.{coarseOk, isIntra}
 use Rattle.stream.specs.declared.Record.{Record}
 use Rattle.stream.specs.declared.Framed.{Framed}
-use Rattle.stream.specs.Frame.{Call, numbersOk, applied, refused, answer}
+use Rattle.stream.specs.Frame.{Call, numbersOk, applied, frameRefused, frameAnswer}
 
 -- ---- numbers
 
@@ -23,6 +23,7 @@ pub record Known (next number : ℕ) (c lm start end intra : ℤ) : Type 0 where
   pub last : number ≤ 4294967294
   pub most : next ≤ 4294967295
 
+-- from the test of all numbers together
 pub known : (next number : ℕ) (c lm start end intra : ℤ) → numbersOk next number c lm start end intra ≡ true → Known next number c lm start end intra
 unfolding numbersOk
 known next number c lm start end intra e =
@@ -33,21 +34,23 @@ known next number c lm start end intra e =
 -- ---- answers
 
 -- the worker's decode, in the record
-pub made : (r : Record) (d : Reader) (s : List ℕ) (c lm start end intra : ℤ) {es : List Float} {y : Reader}
-    → decoded es y ≡ coarse (clip c) (clip lm) (isIntra intra) (clip start) (clip end) s d (r .energies)
+pub applied-by : (r : Record) (d : Reader) (s : List ℕ) (c lm start end intra : ℤ) {es : List Float} {y : Reader}
+    → energiesAfter es y ≡ coarse (clip c) (clip lm) (isIntra intra) (clip start) (clip end) s d (r .energies)
     → _≡_ {A = Framed} (record { code = 0; rec = record { energies = es; next = r .next + 1 }; next = y }) (applied r d s c lm start end intra)
-made r d s c lm start end intra e = ap (framedBy r) e
+applied-by r d s c lm start end intra e = ap (framedBy r) e
   where
-    framedBy : Record → Decoded → Framed
+    framedBy : Record → EnergiesAfter → Framed
     framedBy r x = record { code = 0; rec = record { energies = x .energies; next = r .next + 1 }; next = x .next }
 
-pub got : (n : ℕ) (r : Record) (q : Call) {y : Framed} → n ≡ 0 → y ≡ applied r (q .coder) (q .packet) (q .c) (q .lm) (q .start) (q .end) (q .intra)
-    → y ≡ answer n r q
-unfolding answer
-got zero r q h e = e
-got (suc n) r q h e = absurd (omega arith)
+-- number 0: the answer is the frame applied
+pub answer-applied : (n : ℕ) (r : Record) (q : Call) {y : Framed} → n ≡ 0 → y ≡ applied r (q .coder) (q .packet) (q .c) (q .lm) (q .start) (q .end) (q .intra)
+    → y ≡ frameAnswer n r q
+unfolding frameAnswer
+answer-applied zero r q h e = e
+answer-applied (suc n) r q h e = absurd (omega arith)
 
-pub turned-down : (n : ℕ) (r : Record) (q : Call) → (n ≡ 0 → ⊥) → refused n r (q .coder) ≡ answer n r q
-unfolding answer
-turned-down zero r q h = absurd (h refl)
-turned-down (suc n) r q h = refl
+-- any other number: the answer is that refusal
+pub answer-refused : (n : ℕ) (r : Record) (q : Call) → (n ≡ 0 → ⊥) → frameRefused n r (q .coder) ≡ frameAnswer n r q
+unfolding frameAnswer
+answer-refused zero r q h = absurd (h refl)
+answer-refused (suc n) r q h = refl

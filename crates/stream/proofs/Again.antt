@@ -20,17 +20,19 @@ use Rattle.quant_bands.specs.Question.{isIntra}
 use Rattle.quant_bands.proofs.Accepts.{coarse-in}
 use Rattle.quant_bands.proofs.Finite.{coarse-solid}
 use Rattle.stream.specs.declared.Record.{Record}
-use Rattle.stream.specs.Frame.{Call, fresh, numbersOk, orderOf, refusalFrame, refused, answer, framed}
+use Rattle.stream.specs.Frame.{Call, fresh, numbersOk, orderOf, refusalFrame, frameRefused, frameAnswer, framed}
 use Rattle.stream.specs.History.{recordAfter, finite32, Usable, wellPut, BelowRefused, TenIsBelow, PastRefused, AgainRefused, TwiceRefused}
 use Rattle.stream.proofs.Accepts.{known}
 use Rattle.stream.proofs.Once.{code-is, next-up, number-next, next-goes-up}
 
 -- ---- a usable record stays usable
 
+-- a fresh record is usable
 pub fresh-usable : Usable fresh
 unfolding fresh every fits
 fresh-usable = record { long = refl; all = refl }
 
+-- a list of finite f32 is finite, which is what a frame asks of its record
 pub finite-all : (l : List Float) → every finite32 l ≡ true → every finite l ≡ true
 unfolding every
 finite-all [] e = refl
@@ -38,8 +40,9 @@ finite-all (x ∷ l) e =
     let p = and-eq-true-iff (finite32 x) (every finite32 l) .0 e in
     and-eq-true-iff (finite x) (every finite l) .1 (and-eq-true-iff (fits binary32 x) (finite x) .0 (p .0) .1, finite-all l (p .1))
 
-answer-usable : (n : ℕ) (r : Record) (q : Call) → refusalFrame r q ≡ n → Usable r → Usable (answer n r q .rec)
-unfolding answer refusalFrame
+-- by the number of the refusal: a decode keeps energies finite, and a refusal keeps all
+answer-usable : (n : ℕ) (r : Record) (q : Call) → refusalFrame r q ≡ n → Usable r → Usable (frameAnswer n r q .rec)
+unfolding frameAnswer refusalFrame
 answer-usable zero r q h u =
     let k = known _ _ _ _ _ _ _ (opened _ _ _ _ _ _ h .known) in
     let i = coarse-in (q .c) (q .lm) (q .start) (q .end) (q .intra) (k .coarse) in
@@ -48,9 +51,11 @@ answer-usable zero r q h u =
     record { long = y .long; all = y .all }
 answer-usable (suc n) r q h u = u
 
+-- a frame leaves a usable record usable, applied or refused
 pub framed-usable : (r : Record) (q : Call) → Usable r → Usable (framed r q .rec)
 framed-usable r q u = answer-usable (refusalFrame r q) r q refl u
 
+-- and so do all the calls after it
 pub usable-after : (qs : List Call) (r : Record) → Usable r → Usable (recordAfter r qs)
 unfolding recordAfter
 usable-after [] r u = u
@@ -58,15 +63,18 @@ usable-after (q ∷ qs) r u = usable-after qs (framed r q .rec) (framed-usable r
 
 -- ---- a number below the next
 
+-- of the order alone: 10
 below-is : (next number : ℕ) → number < next → orderOf next number ≡ 10
 below-is next number h = rw (lt-ltb number next h)
 
-ten : (a b c l : Bool) (own : ℕ) (live told : Bool) → (a && b && c) ≡ true → l ≡ true → own ≡ 10 → refusal (a && true) (b && c) l own live told ≡ 10
+-- where the tests of 2, 1 and 3 pass and the order says 10, the refusal is 10
+ten : (a b c l : Bool) (special : ℕ) (unclosed tellFits : Bool) → (a && b && c) ≡ true → l ≡ true → special ≡ 10
+    → refusal (a && true) (b && c) l special unclosed tellFits ≡ 10
 unfolding refusal
-ten true true true l own live told e f g = rw (f, g)
-ten true true false l own live told e f g = absurd (false≢true e)
-ten true false c l own live told e f g = absurd (false≢true e)
-ten false b c l own live told e f g = absurd (false≢true e)
+ten true true true l special unclosed tellFits e f g = rw (f, g)
+ten true true false l special unclosed tellFits e f g = absurd (false≢true e)
+ten true false c l special unclosed tellFits e f g = absurd (false≢true e)
+ten false b c l special unclosed tellFits e f g = absurd (false≢true e)
 
 -- so such a frame is 10
 below-ten : (r : Record) (q : Call) → wellPut r q ≡ true → every finite (r .energies) ≡ true → q .number < r .next → refusalFrame r q ≡ 10
@@ -76,30 +84,30 @@ below-ten r q w f h =
 
 -- and its answer leaves record and reader
 pub below-refused : BelowRefused
-unfolding answer
-below-refused r q w f h = ap (λ (n : ℕ). answer n r q) (below-ten r q w f h)
+unfolding frameAnswer
+below-refused r q w f h = ap (λ (n : ℕ). frameAnswer n r q) (below-ten r q w f h)
 
 -- the number of the order alone is 10, where the other tests pass
-own-ten : (next number : ℕ) (told : Bool) → refusal true true true (orderOf next number) true told ≡ 10 → number < next
+order-ten : (next number : ℕ) (tellFits : Bool) → refusal true true true (orderOf next number) true tellFits ≡ 10 → number < next
 unfolding refusal
-own-ten next number told e =
-    by-le next number (λ h. by-le number next (λ g. absurd (equal h g told e)) (λ g. absurd (above g e))) (λ h. h)
+order-ten next number tellFits e =
+    by-le next number (λ h. by-le number next (λ g. absurd (equal h g tellFits e)) (λ g. absurd (above g e))) (λ h. h)
   where
-    equal : next ≤ number → number ≤ next → (told : Bool) → refusal true true true (orderOf next number) true told ≡ 10 → ⊥
+    equal : next ≤ number → number ≤ next → (tellFits : Bool) → refusal true true true (orderOf next number) true tellFits ≡ 10 → ⊥
     equal h g true e = let z = rw (le-ltb number next h, le-ltb next number g) at e in omega (arith, z)
     equal h g false e = let z = rw (le-ltb number next h, le-ltb next number g) at e in omega (arith, z)
 
-    above : next < number → refusal true true true (orderOf next number) true told ≡ 10 → ⊥
+    above : next < number → refusal true true true (orderOf next number) true tellFits ≡ 10 → ⊥
     above g e = let z = rw (le-ltb number next (omega arith), lt-ltb next number g) at e in omega (arith, z)
 
 -- 10 says that the tests before it pass
-ten-is : (a b c l : Bool) (next number : ℕ) (told : Bool) → refusal (a && true) (b && c) l (orderOf next number) true told ≡ 10
+ten-is : (a b c l : Bool) (next number : ℕ) (tellFits : Bool) → refusal (a && true) (b && c) l (orderOf next number) true tellFits ≡ 10
     → ((a && b && c) ≡ true) × (l ≡ true) × (number < next)
-ten-is true true true true next number told e = (refl, refl, own-ten next number told e)
-ten-is true true true false next number told e = absurd (unfold refusal in omega (arith, e))
-ten-is true true false l next number told e = absurd (unfold refusal in omega (arith, e))
-ten-is true false c l next number told e = absurd (unfold refusal in omega (arith, e))
-ten-is false b c l next number told e = absurd (unfold refusal in omega (arith, e))
+ten-is true true true true next number tellFits e = (refl, refl, order-ten next number tellFits e)
+ten-is true true true false next number tellFits e = absurd (unfold refusal in omega (arith, e))
+ten-is true true false l next number tellFits e = absurd (unfold refusal in omega (arith, e))
+ten-is true false c l next number tellFits e = absurd (unfold refusal in omega (arith, e))
+ten-is false b c l next number tellFits e = absurd (unfold refusal in omega (arith, e))
 
 -- of a frame
 ten-below : (r : Record) (q : Call) → refusalFrame r q ≡ 10 → (wellPut r q ≡ true) × (every finite (r .energies) ≡ true) × (q .number < r .next)
@@ -111,7 +119,7 @@ pub ten-is-below : TenIsBelow
 ten-is-below r q e = ten-below r q (sym (code-is (refusalFrame r q) r q) ∙ e)
 
 -- of a usable record
-below-usable : (r : Record) (q : Call) → Usable r → q .number < r .next → wellPut r q ≡ true → framed r q ≡ refused 10 r (q .coder)
+below-usable : (r : Record) (q : Call) → Usable r → q .number < r .next → wellPut r q ≡ true → framed r q ≡ frameRefused 10 r (q .coder)
 below-usable r q u h w = below-refused r q w (finite-all (r .energies) (u .all)) h
 
 -- ---- a next number outside its domain
@@ -124,11 +132,11 @@ outside r q h =
     (λ e. e)
 
 -- a number outside its domain is 1, whatever the tests after it say, and 2 goes before it
-one-or-two : (a b c l : Bool) (own : ℕ) (told : Bool) → c ≡ false → refusal (a && true) (b && c) l own true told ≡ cond a 1 2
+one-or-two : (a b c l : Bool) (special : ℕ) (tellFits : Bool) → c ≡ false → refusal (a && true) (b && c) l special true tellFits ≡ cond a 1 2
 unfolding refusal
-one-or-two true true c l own told e = rw e
-one-or-two true false c l own told e = refl
-one-or-two false b c l own told e = refl
+one-or-two true true c l special tellFits e = rw e
+one-or-two true false c l special tellFits e = refl
+one-or-two false b c l special tellFits e = refl
 
 -- of a frame
 past-number : (r : Record) (q : Call) → 4294967295 < r .next → refusalFrame r q ≡ cond (eqb (q .coder .storage) (length (q .packet))) 1 2
@@ -136,18 +144,19 @@ unfolding refusalFrame readRefusal
 past-number r q h = one-or-two (eqb (q .coder .storage) (length (q .packet))) (readerOk (q .coder)) _ _ _ _ (outside r q h)
 
 -- either number leaves record and reader
-answer-refused : (t : Bool) (r : Record) (q : Call) → answer (cond t 1 2) r q ≡ refused (cond t 1 2) r (q .coder)
-unfolding answer
-answer-refused true r q = refl
-answer-refused false r q = refl
+one-or-two-refused : (t : Bool) (r : Record) (q : Call) → frameAnswer (cond t 1 2) r q ≡ frameRefused (cond t 1 2) r (q .coder)
+unfolding frameAnswer
+one-or-two-refused true r q = refl
+one-or-two-refused false r q = refl
 
 -- both together
 pub past-refused : PastRefused
 past-refused r q h =
-    ap (λ (n : ℕ). answer n r q) (past-number r q h) ∙ answer-refused (eqb (q .coder .storage) (length (q .packet))) r q
+    ap (λ (n : ℕ). frameAnswer n r q) (past-number r q h) ∙ one-or-two-refused (eqb (q .coder .storage) (length (q .packet))) r q
 
 -- ---- the theorems
 
+-- a number that was applied stays below the next, so it is refused as 10 on the usable record that is then there
 pub again-refused : AgainRefused
 again-refused r q qs q′ u h e w =
     let z : refusalFrame r q ≡ 0 = sym (code-is (refusalFrame r q) r q) ∙ h in
@@ -171,12 +180,14 @@ opens : (r : Record) (q : Call) → refusalFrame r q ≡ 0 → Open (length (q .
 unfolding refusalFrame
 opens r q h = opened _ _ _ _ _ _ h
 
+-- where 2 and 1 do not apply to a frame that is applied, they do not apply to it a second time
 well-put : (r : Record) (q : Call) → refusalFrame r q ≡ 0 → wellPut (framed r q .rec) q ≡ true
 well-put r q h =
     let o = opens r q h in
     let n = numbers-again (r .next) (q .number) (q .c) (q .lm) (q .start) (q .end) (q .intra) (o .known) (number-next r q h) in
     rw (next-goes-up (refusalFrame r q) r q h, eq-eqb (q .coder .storage) (length (q .packet)) (o .whole), sound-ok (q .coder) (o .state), n)
 
+-- the second call has the same number, which is below the next by then
 pub twice-refused : TwiceRefused
 twice-refused r q u h =
     let z : refusalFrame r q ≡ 0 = sym (code-is (refusalFrame r q) r q) ∙ h in

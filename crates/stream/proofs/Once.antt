@@ -13,7 +13,8 @@ use Rattle.laws.proofs.Tests.{by-le, cond-by}
 use Rattle.entdec.proofs.Accepted.{opened}
 use Rattle.stream.specs.declared.Record.{Record}
 use Rattle.stream.specs.declared.Framed.{Framed}
-use Rattle.stream.specs.Frame.{Call, fresh, orderOf, refusalFrame, applied, refused, answer, framed}
+use Rattle.stream.specs.Frame.{Call, fresh, orderOf, refusalFrame, frameRefused, frameAnswer, framed}
+use Rattle.stream.proofs.Accepts.{answer-refused}
 use Rattle.stream.specs.History.{recordAfter, appliedIn, numbersFrom, times, OnlyTheNext, RefusedChangesNothing, InOrder, EachOnce, CountsUp, NeverAgain}
 
 -- ---- one frame
@@ -31,8 +32,8 @@ in-order next number h =
     above b = let e = rw (le-ltb number next (omega arith), lt-ltb next number b) at h in omega (arith, e)
 
 -- the answer's code is the number of the refusal
-pub code-is : (n : ℕ) (r : Record) (q : Call) → answer n r q .code ≡ n
-unfolding answer
+pub code-is : (n : ℕ) (r : Record) (q : Call) → frameAnswer n r q .code ≡ n
+unfolding frameAnswer
 code-is zero r q = refl
 code-is (suc n) r q = refl
 
@@ -41,25 +42,23 @@ pub number-next : (r : Record) (q : Call) → refusalFrame r q ≡ 0 → q .numb
 unfolding refusalFrame
 number-next r q h = in-order (r .next) (q .number) (opened _ _ _ _ _ _ h .none)
 
-pub next-goes-up : (n : ℕ) (r : Record) (q : Call) → n ≡ 0 → answer n r q .rec .next ≡ r .next + 1
-unfolding answer
+-- an applied frame raises the next number by one
+pub next-goes-up : (n : ℕ) (r : Record) (q : Call) → n ≡ 0 → frameAnswer n r q .rec .next ≡ r .next + 1
+unfolding frameAnswer
 next-goes-up zero r q h = refl
 next-goes-up (suc n) r q h = absurd (omega arith)
 
-pub refused-is : (n : ℕ) (r : Record) (q : Call) → (n ≡ 0 → ⊥) → answer n r q ≡ refused n r (q .coder)
-unfolding answer
-refused-is zero r q h = absurd (h refl)
-refused-is (suc n) r q h = refl
-
+-- code 0 says that the order was 0, which only the next number gets
 pub only-the-next : OnlyTheNext
 only-the-next r q h =
     let e : refusalFrame r q ≡ 0 = sym (code-is (refusalFrame r q) r q) ∙ h in
     (number-next r q e, next-goes-up (refusalFrame r q) r q e)
 
+-- a code that is not 0 is the number of a refusal
 pub refused-changes-nothing : RefusedChangesNothing
 refused-changes-nothing r q h =
     let c = code-is (refusalFrame r q) r q in
-    refused-is (refusalFrame r q) r q (λ e. h (c ∙ e)) ∙ ap (λ (n : ℕ). refused n r (q .coder)) (sym c)
+    sym (answer-refused (refusalFrame r q) r q (λ e. h (c ∙ e))) ∙ ap (λ (n : ℕ). frameRefused n r (q .coder)) (sym c)
 
 -- ---- a stream of frames
 
@@ -67,6 +66,7 @@ refused-changes-nothing r q h =
 abbrev pub Counted : ℕ → List ℕ → ℕ → Type 0
 Counted n a m = (a ≡ numbersFrom n (length a)) × (m ≡ n + length a)
 
+-- before any call
 pub counted-none : (n : ℕ) → Counted n [] n
 unfolding numbersFrom
 counted-none n = (refl, omega arith)
@@ -91,6 +91,7 @@ counted-frame r q a m h =
     let same : framed r q .rec .next ≡ r .next = ap (λ (y : Framed). y .rec .next) (refused-changes-nothing r q (eqb-false (framed r q .code) 0 e)) in
     rw same at h)
 
+-- call by call
 counted : (qs : List Call) (r : Record) → Counted (r .next) (appliedIn r qs) (recordAfter r qs .next)
 unfolding appliedIn recordAfter
 counted [] r = counted-none (r .next)
@@ -136,11 +137,13 @@ unfolding times numbersFrom
 times-low n m zero h = refl
 times-low n m (suc k) h = rw (ne-eqb m n (λ e. omega arith)) (times-low n (suc m) k (omega arith))
 
+-- past them
 times-past : (n m k : ℕ) → m + k ≤ n → times n (numbersFrom m k) ≡ 0
 unfolding times numbersFrom
 times-past n m zero h = refl
 times-past n m (suc k) h = rw (ne-eqb m n (λ e. omega arith)) (times-past n (suc m) k (omega arith))
 
+-- one of them
 times-in : (n m k : ℕ) → m ≤ n → n < m + k → times n (numbersFrom m k) ≡ 1
 unfolding times numbersFrom
 times-in n m zero h g = absurd (omega arith)
@@ -155,6 +158,7 @@ times-most n m k =
     (λ h. by-le (m + k) n (λ g. let e = times-past n m k g in omega arith) (λ g. let e = times-in n m k h g in omega arith))
     (λ h. let e = times-low n m k h in omega arith)
 
+-- the numbers applied are those from 0 on, in which a number stands once
 pub each-once : EachOnce
 each-once qs n =
     let m = recordAfter fresh qs .next in

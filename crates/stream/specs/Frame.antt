@@ -72,14 +72,14 @@ applied r d s c lm start end intra =
     record { code = 0; rec = record { energies = y .energies; next = r .next + 1 }; next = y .next }
 
 -- a frame that is refused: record and reader as they were
-abbrev pub refused : ℕ → Record → Reader → Framed
-refused n r d = record { code = n; rec = r; next = d }
+abbrev pub frameRefused : ℕ → Record → Reader → Framed
+frameRefused n r d = record { code = n; rec = r; next = d }
 
 -- number 0: the frame applied; any other: that refusal
-unfoldable pub answer : ℕ → Record → Call → Framed
-answer zero r q = applied r (q .coder) (q .packet) (q .c) (q .lm) (q .start) (q .end) (q .intra)
-answer (suc n) r q = refused (suc n) r (q .coder)
+unfoldable pub frameAnswer : ℕ → Record → Call → Framed
+frameAnswer zero r q = applied r (q .coder) (q .packet) (q .c) (q .lm) (q .start) (q .end) (q .intra)
+frameAnswer (suc n) r q = frameRefused (suc n) r (q .coder)
 
 -- a checked frame
 abbrev pub framed : Record → Call → Framed
-framed r q = answer (refusalFrame r q) r q
+framed r q = frameAnswer (refusalFrame r q) r q

@@ -12,7 +12,7 @@ use lib.ListN.{length, getD}
 use Rattle.laws.specs.Lists.{every}
 use Rattle.entdec.specs.Rule.{readerOk}
 use Rattle.stream.specs.declared.Record.{Record}
-use Rattle.stream.specs.Frame.{Call, fresh, numbersOk, refused, framed}
+use Rattle.stream.specs.Frame.{Call, fresh, numbersOk, frameRefused, framed}
 
 -- the record after some calls, whatever each of them answered
 unfoldable pub recordAfter : Record → List Call → Record
@@ -42,7 +42,7 @@ OnlyTheNext = (r : Record) (q : Call) → framed r q .code ≡ 0 → (q .number 
 
 -- a frame that is refused changes neither the record nor the reader
 abbrev pub RefusedChangesNothing : Type 0
-RefusedChangesNothing = (r : Record) (q : Call) → (framed r q .code ≡ 0 → ⊥) → framed r q ≡ refused (framed r q .code) r (q .coder)
+RefusedChangesNothing = (r : Record) (q : Call) → (framed r q .code ≡ 0 → ⊥) → framed r q ≡ frameRefused (framed r q .code) r (q .coder)
 
 -- from a fresh record, the numbers applied are 0, 1, .., one below the next, in this order, whatever was refused between them
 abbrev pub InOrder : Type 0
@@ -74,7 +74,7 @@ wellPut r q =
 -- over any record: where 2, 1 and 3 do not apply, a number below the next is refused as 10, and record and reader stay as they were
 abbrev pub BelowRefused : Type 0
 BelowRefused =
-    (r : Record) (q : Call) → wellPut r q ≡ true → every finite (r .energies) ≡ true → q .number < r .next → framed r q ≡ refused 10 r (q .coder)
+    (r : Record) (q : Call) → wellPut r q ≡ true → every finite (r .energies) ≡ true → q .number < r .next → framed r q ≡ frameRefused 10 r (q .coder)
 
 -- and nothing else is: 10 says that 2, 1 and 3 do not apply, and that the number is below the next
 abbrev pub TenIsBelow : Type 0
@@ -86,7 +86,7 @@ TenIsBelow =
 abbrev pub PastRefused : Type 0
 PastRefused =
     (r : Record) (q : Call) → 4294967295 < r .next
-    → framed r q ≡ refused (cond (eqb (q .coder .storage) (length (q .packet))) 1 2) r (q .coder)
+    → framed r q ≡ frameRefused (cond (eqb (q .coder .storage) (length (q .packet))) 1 2) r (q .coder)
 
 -- a finite f32
 abbrev pub finite32 : Float → Bool
@@ -101,11 +101,11 @@ pub record Usable (r : Record) : Type 0 where
 abbrev pub AgainRefused : Type 0
 AgainRefused =
     (r : Record) (q : Call) (qs : List Call) (q′ : Call) → Usable r → framed r q .code ≡ 0 → q′ .number ≡ q .number
-    → let r′ = recordAfter (framed r q .rec) qs in wellPut r′ q′ ≡ true → framed r′ q′ ≡ refused 10 r′ (q′ .coder)
+    → let r′ = recordAfter (framed r q .rec) qs in wellPut r′ q′ ≡ true → framed r′ q′ ≡ frameRefused 10 r′ (q′ .coder)
 
 -- so of a frame that is applied twice the second is refused as 10, and the record is as after the first
 abbrev pub TwiceRefused : Type 0
-TwiceRefused = (r : Record) (q : Call) → Usable r → framed r q .code ≡ 0 → framed (framed r q .rec) q ≡ refused 10 (framed r q .rec) (q .coder)
+TwiceRefused = (r : Record) (q : Call) → Usable r → framed r q .code ≡ 0 → framed (framed r q .rec) q ≡ frameRefused 10 (framed r q .rec) (q .coder)
 
 -- ---- a mono frame
 

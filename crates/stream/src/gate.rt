@@ -43,6 +43,6 @@ pub fn refusal(
     let e = rec.energies;
     let known = numbers_ok(rec.next, number, c, lm, start, end, intra);
     let finite = all_finite(&e);
-    let own = order_of(rec.next, number);
-    d.refusal(bytes, true, known, finite, own)
+    let special = order_of(rec.next, number);
+    d.refusal(bytes, true, known, finite, special)
 }

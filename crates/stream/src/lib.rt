@@ -1,5 +1,5 @@
-// The stream record: the energies of the frame before, and the number of the frame that comes next. Document 01, "Energies, shapes and the stream
-// record".
+// The stream record: the energies of the frame before, and the number of the frame that comes next.
+// Document 01, "Energies, shapes and the stream record".
 ghost use mathlib.Core.Path.{_≡_};
 ghost use Rattle.stream.specs.Frame.{fresh, orderOf, ordered, call, framed};
 use entdec::Reader;
@@ -22,12 +22,12 @@ pub struct Framed {
     pub next: Reader,
 }
 
-// THE PLACE WHERE A REPEAT IS REFUSED. A frame's number must be the record's next: one below it was applied before and is refused as 10, one
-// above it would leave a gap and is refused as 11. 0 for the next number itself. `order` and the gate of `frame` both ask
-// here, and what comes before 10 in the order of refusals goes before it.
+// A repeat is refused here: a number below the record's next was applied before, and its frame is refused as 10. A number above the next would leave
+// a gap and is refused as 11; the next itself is 0, no refusal. `order` and the gate of `frame` both ask here; specs/History.antt states what follows.
 pub fn order_of(next: u64, number: u64) -> u32
     ensures { λ r. ⌜ r ≡ orderOf next number ⌝ }
 {
+    // the repeat
     if number < next {
         return 10;
     }
@@ -42,8 +42,8 @@ pub fn order(next: u64, number: u64) -> u32
     ensures { λ r. ⌜ r ≡ ordered next number ⌝ }
 {
     let known = gate::both_in_domain(next, number);
-    let own = order_of(next, number);
-    entcode::refusal_of(true, known, true, own, true, true)
+    let special = order_of(next, number);
+    entcode::refusal_of(true, known, true, special, true, true)
 }
 
 impl Record {
@@ -57,9 +57,9 @@ impl Record {
         }
     }
 
-    // Frame `number`, whose coarse energies the reader d stands before in the packet s. Only the next number is applied: one coarse decode, and
-    // the number goes up by one. Refused as 2 (bytes), 1 (the state, the numbers, the record's next number), 3 (an energy of the record that is
-    // not finite), 10 (a number below the next), 11 (one above it) and 4.
+    // Frame `number`, whose coarse energies the reader d stands before in the packet s. Where it is the record's next, its coarse energies are decoded
+    // once over those of the record, and the number after it comes next. Refused as 2 (bytes), 1 (the state, the numbers, the record's next number),
+    // 3 (an energy of the record that is not finite), 10 (a number below the next), 11 (one above it) and 4.
     pub fn frame(
         self,
         d: Reader,

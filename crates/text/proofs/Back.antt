@@ -1,5 +1,4 @@
--- What is written is read back: decimals, signed decimals and words of eight hex digits, each by itself and as a field of a line.
--- Assumes nothing.
+-- What is written is read back: decimals and words of eight hex digits, each by itself and as a field of a line. Assumes nothing.
 use Prim.Native.Nat.{ℕ, zero, suc, _+_, _-_, _*_, _/_, _%_, _^_, _<_, _≤_}
 use mathlib.Core.Path.{_≡_, refl, sym, ap, _∙_, subst}
 use mathlib.Core.Bool.{Bool, true, false, cond, and-eq-true-iff}
@@ -8,18 +7,15 @@ use mathlib.Core.Logic.{_⊎_, inl, inr}
 use native.Mathlib.Nat.{pow-zero, pow-suc, div-lt-iff-lt-mul, div-add-mod', mod-lt}
 use native.Mathlib.Omega.{arith}
 use lib.Dec.{ltb, eqb}
-use lib.IntN.{ℤ, pos, negsuc}
 use lib.ListN.{length, getD, List·getD-append}
-use lib.Signed.{mag}
 use borrow.Author.Tests.{lt-ltb, le-leb, ltb-true, ltb-false, eq-eqb, ne-eqb, eqb-true}
 use Rattle.laws.specs.Lists.{every}
 use Rattle.laws.proofs.Tables.{run, below-at}
 use Rattle.text.specs.declared.Number.the-variants.{Got}
-use Rattle.text.specs.declared.Whole.the-variants.{Is}
-use Rattle.text.specs.Parts.{noTab}
+use Rattle.text.specs.Fields.{noTab}
 use Rattle.text.specs.Digits.{digitOf, allDigits, valueAfter, glyphOf, lastDigits}
-use Rattle.text.specs.Numbers.{digitsOf, numberOf, minus, wholeOf, wordOf}
-use Rattle.text.specs.Written.{figuresOf, decimalOf, signedOf, hexOf}
+use Rattle.text.specs.Numbers.{digitsOf, numberOf, wordOf}
+use Rattle.text.specs.Written.{figuresOf, decimalOf, hexWordOf}
 use Rattle.text.proofs.Values.{number-one, number-more}
 use Rattle.text.proofs.Texts.{digits-length}
 
@@ -30,18 +26,17 @@ glyphs : run (λ d. eqb (digitOf (glyphOf d)) d) 0 16 ≡ true
 unfolding digitOf glyphOf
 glyphs = refl
 
+-- the same of any value below 16
 digit-glyph : (d : ℕ) → d < 16 → digitOf (glyphOf d) ≡ d
 digit-glyph d h = eqb-true (digitOf (glyphOf d)) d (below-at (λ d. eqb (digitOf (glyphOf d)) d) 16 glyphs d h)
 
+-- the digits of two parts
 value-join : (base v : ℕ) (s t : List ℕ) → valueAfter base v (s ++ t) ≡ valueAfter base (valueAfter base v s) t
 unfolding valueAfter
 value-join base v [] t = refl
 value-join base v (c ∷ s) t = value-join base (v * base + digitOf c) s t
 
-value-one : (base v c : ℕ) → valueAfter base v (c ∷ []) ≡ v * base + digitOf c
-unfolding valueAfter
-value-one base v c = refl
-
+-- a digit more at the end
 digits-join : (base : ℕ) (s : List ℕ) (c : ℕ) → allDigits base s ≡ true → digitOf c < base → allDigits base (s ++ c ∷ []) ≡ true
 unfolding allDigits
 digits-join base [] c h k = rw (lt-ltb (digitOf c) base k)
@@ -50,6 +45,7 @@ digits-join base (b ∷ s) c h k =
     rw (t .0) (digits-join base s c (t .1) k)
 
 module _ (base : ℕ) (some : 0 < base) (few : base ≤ 16) where
+  -- the last digit of a number is read as its value
   digit-last : (n : ℕ) → digitOf (glyphOf (n % base)) ≡ n % base
   digit-last n = let h = mod-lt n {m = base} some in digit-glyph (n % base) (omega arith)
 
@@ -95,20 +91,22 @@ first-figure (suc k) n h g e =
     (sym (List·getD-append (lastDigits 10 (suc k) (n / 10)) (glyphOf (n % 10) ∷ []) 0 0 (omega arith)) ∙ e)
 
 -- k is the number of figures of n
-record Figures (n k : ℕ) : Type 0 where
+record FigureCount (n k : ℕ) : Type 0 where
   pub enough : n < 10 ^ k
   pub least : (k ≡ 1) ⊎ ((1 < k) × (10 ^ (k - 1) ≤ n))
 
-more-figures : (n t a b : ℕ) → (n < t → Figures n a) → (t ≤ n → Figures n b) → Figures n (cond (ltb n t) a b)
+-- by a test of the number of figures
+more-figures : (n t a b : ℕ) → (n < t → FigureCount n a) → (t ≤ n → FigureCount n b) → FigureCount n (cond (ltb n t) a b)
 more-figures n t a b f g = go (ltb n t) refl
   where
-    go : (x : Bool) → ltb n t ≡ x → Figures n (cond x a b)
+    go : (x : Bool) → ltb n t ≡ x → FigureCount n (cond x a b)
     go true e = f (ltb-true n t e)
     go false e = g (ltb-false n t e)
 
-figures-are : (n : ℕ) → n < 4294967296 → Figures n (figuresOf n)
+-- by each power of ten
+figures-count : (n : ℕ) → n < 4294967296 → FigureCount n (figuresOf n)
 unfolding figuresOf
-figures-are n h =
+figures-count n h =
     more-figures n 10 1 _ (λ k. record { enough = omega arith; least = inl refl }) (λ a.
     more-figures n 100 2 _ (λ k. record { enough = omega arith; least = inr (omega arith, omega arith) }) (λ b.
     more-figures n 1000 3 _ (λ k. record { enough = omega arith; least = inr (omega arith, omega arith) }) (λ b.
@@ -120,14 +118,19 @@ figures-are n h =
     more-figures n 1000000000 9 10 (λ k. record { enough = omega arith; least = inr (omega arith, omega arith) })
     (λ b. record { enough = omega arith; least = inr (omega arith, omega arith) })))))))))
 
+-- the digits of a decimal are read as its number
 decimal-digits : (most n : ℕ) → n < 4294967296 → n ≤ most → digitsOf 10 most (decimalOf n) ≡ Got n
 decimal-digits most n h l =
-    rw
-    (all-digits 10 (omega arith) (omega arith) (figuresOf n) n, value-back 10 (omega arith) (omega arith) (figuresOf n) n (figures-are n h .enough), le-leb n most l)
+    rw (
+      all-digits 10 (omega arith) (omega arith) (figuresOf n) n,
+      value-back 10 (omega arith) (omega arith) (figuresOf n) n (figures-count n h .enough),
+      le-leb n
+          most l,
+    )
 
 -- a decimal that was written is read as its number
 pub decimal-back : (most n : ℕ) → n < 4294967296 → n ≤ most → numberOf most (decimalOf n) ≡ Got n
-decimal-back most n h l = go (figures-are n h .least)
+decimal-back most n h l = go (figures-count n h .least)
   where
     w : length (decimalOf n) ≡ figuresOf n
     w = digits-length 10 (figuresOf n) n
@@ -139,42 +142,26 @@ decimal-back most n h l = go (figures-are n h .least)
         sym
         (number-more most (decimalOf n) (λ (z : length (decimalOf n) ≡ 0). omega (arith, w, p .0)) (λ (z : length (decimalOf n) ≡ 1). omega (arith, w, p .0))
         (λ z.
-        first-figure (figuresOf n - 1) n (p .1) (subst (λ (k : ℕ). n < 10 ^ k) (sym e) (figures-are n h .enough))
+        first-figure (figuresOf n - 1) n (p .1) (subst (λ (k : ℕ). n < 10 ^ k) (sym e) (figures-count n h .enough))
         (ap (λ (k : ℕ). getD (lastDigits 10 k n) 0 0) e ∙ z)))
         ∙ decimal-digits most n h l
 
--- a figure is no minus
-no-minus : (s : List ℕ) → allDigits 10 s ≡ true → eqb (getD s 0 0) 45 ≡ false
-unfolding allDigits digitOf
-no-minus [] h = refl
-no-minus (c ∷ s) h =
-    let t = ltb-true (digitOf c) 10 (and-eq-true-iff (ltb (digitOf c) 10) (allDigits 10 s) .0 h .0) in
-    ne-eqb c 45 (λ (e : c ≡ 45). go c t e)
-  where
-    go : (c : ℕ) → digitOf c < 10 → c ≡ 45 → ⊥
-    go c t e = let z : digitOf c ≡ 16 = ap digitOf e in omega arith
-
--- a signed decimal that was written is read as its number
-pub signed-back : (z : ℤ) → mag z < 2147483648 → wholeOf (signedOf z) ≡ Is z
-signed-back (pos n) h =
-    rw (no-minus (decimalOf n) (all-digits 10 (omega arith) (omega arith) (figuresOf n) n), decimal-back 2147483647 n (omega arith) (omega arith))
-signed-back (negsuc k) h =
-    ap minus (decimal-back 2147483648 (suc k) (omega arith) (omega arith)) ∙ rw (ne-eqb (suc k) 0 (λ (e : suc k ≡ 0). omega arith))
-
+-- a decimal has no tab
 pub decimal-no-tab : (n : ℕ) → noTab (decimalOf n) ≡ true
 decimal-no-tab n = digits-no-tab 10 (omega arith) (omega arith) (decimalOf n) (all-digits 10 (omega arith) (omega arith) (figuresOf n) n)
 
 -- ---- hex
 
 -- a word that was written is read as its number
-pub word-back : (n : ℕ) → n < 4294967296 → wordOf (hexOf n) ≡ Got n
+pub word-back : (n : ℕ) → n < 4294967296 → wordOf (hexWordOf n) ≡ Got n
 word-back n h =
     rw (
-      eq-eqb (length (hexOf n)) 8 (digits-length 16 8 n),
+      eq-eqb (length (hexWordOf n)) 8 (digits-length 16 8 n),
       all-digits 16 (omega arith) (omega arith) 8 n,
       value-back 16 (omega arith) (omega arith) 8 n h,
       le-leb n 4294967295 (omega arith),
     )
 
-pub word-no-tab : (n : ℕ) → noTab (hexOf n) ≡ true
-word-no-tab n = digits-no-tab 16 (omega arith) (omega arith) (hexOf n) (all-digits 16 (omega arith) (omega arith) 8 n)
+-- nor has a word
+pub word-no-tab : (n : ℕ) → noTab (hexWordOf n) ≡ true
+word-no-tab n = digits-no-tab 16 (omega arith) (omega arith) (hexWordOf n) (all-digits 16 (omega arith) (omega arith) 8 n)

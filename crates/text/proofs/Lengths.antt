@@ -1,5 +1,5 @@
 -- How long a text is: a line by its fields, and a decimal by the number that it writes. Assumes nothing.
-use Prim.Native.Nat.{ℕ, zero, suc, _+_, _*_, _^_, _≤_, _<_}
+use Prim.Native.Nat.{ℕ, suc, _+_, _*_, _^_, _≤_, _<_}
 use mathlib.Core.Path.{_≡_, refl, sym, ap, _∙_}
 use mathlib.Core.Bool.{Bool, true, false, cond, not, _&&_, true≢false}
 use mathlib.Core.List.{List, [], _∷_}
@@ -12,40 +12,40 @@ use Rattle.laws.proofs.Powers.{mul-pow-suc}
 use Rattle.laws.proofs.Tests.{by-le}
 use Rattle.text.specs.declared.Number.{Number}
 use Rattle.text.specs.declared.Number.the-variants.{Got, Bad}
-use Rattle.text.specs.Parts.{glue, partsOf, fieldsOf}
+use Rattle.text.specs.Fields.{glue, separated, fieldsOf}
 use Rattle.text.specs.Digits.{digitOf, allDigits, valueAfter}
 use Rattle.text.specs.Numbers.{gotIf, noNeedlessZero, numberOf}
-use Rattle.text.proofs.Tabs.{parts-some}
+use Rattle.text.proofs.FieldLaws.{separated-some}
 
 -- ---- a line
 
 -- the bytes of the fields, and one more for each
-unfoldable pub sizes : List (List ℕ) → ℕ
-sizes [] = 0
-sizes (f ∷ fs) = suc (length f) + sizes fs
+unfoldable pub fieldsLength : List (List ℕ) → ℕ
+fieldsLength [] = 0
+fieldsLength (f ∷ fs) = suc (length f) + fieldsLength fs
 
 -- one byte more in the first field
-glue-sizes : (b : ℕ) (fs : List (List ℕ)) → 0 < length fs → sizes (glue b fs) ≡ suc (sizes fs)
-unfolding glue sizes
-glue-sizes b [] h = absurd (omega arith)
-glue-sizes b (f ∷ fs) h = omega arith
+glue-fields-length : (b : ℕ) (fs : List (List ℕ)) → 0 < length fs → fieldsLength (glue b fs) ≡ suc (fieldsLength fs)
+unfolding glue fieldsLength
+glue-fields-length b [] h = absurd (omega arith)
+glue-fields-length b (f ∷ fs) h = omega arith
 
 -- a line has the bytes of its fields, and a tab between any two
-pub line-sizes : (s : List ℕ) → suc (length s) ≡ sizes (fieldsOf s)
-unfolding partsOf sizes
-line-sizes [] = refl
-line-sizes (b ∷ s) = go (eqb b 9) (line-sizes s)
+pub line-length : (s : List ℕ) → suc (length s) ≡ fieldsLength (fieldsOf s)
+unfolding separated fieldsLength
+line-length [] = refl
+line-length (b ∷ s) = go (eqb b 9) (line-length s)
   where
-    go : (t : Bool) → suc (length s) ≡ sizes (fieldsOf s) → suc (suc (length s)) ≡ sizes (cond t ([] ∷ fieldsOf s) (glue b (fieldsOf s)))
+    go : (t : Bool) → suc (length s) ≡ fieldsLength (fieldsOf s) → suc (suc (length s)) ≡ fieldsLength (cond t ([] ∷ fieldsOf s) (glue b (fieldsOf s)))
     go true e = omega arith
-    go false e = ap suc e ∙ sym (glue-sizes b (fieldsOf s) (parts-some 9 s))
+    go false e = ap suc e ∙ sym (glue-fields-length b (fieldsOf s) (separated-some 9 s))
 
 -- the first two fields, and the others
-pub sizes-two : (fs : List (List ℕ)) → 2 ≤ length fs → sizes fs ≡ length (getD fs 0 []) + length (getD fs 1 []) + 2 + sizes (drop 2 fs)
-unfolding sizes
-sizes-two [] h = absurd (omega arith)
-sizes-two (f ∷ []) h = absurd (omega arith)
-sizes-two (f ∷ g ∷ fs) h = omega arith
+pub two-fields-length : (fs : List (List ℕ)) → 2 ≤ length fs → fieldsLength fs ≡ length (getD fs 0 []) + length (getD fs 1 []) + 2 + fieldsLength (drop 2 fs)
+unfolding fieldsLength
+two-fields-length [] h = absurd (omega arith)
+two-fields-length (f ∷ []) h = absurd (omega arith)
+two-fields-length (f ∷ g ∷ fs) h = omega arith
 
 -- ---- a decimal
 
@@ -77,11 +77,11 @@ zero-digit c e =
         (λ l. let z = rw (le-ltb c 48 (omega arith), le-ltb c 58 b, lt-ltb c 97 (omega arith)) at e in omega (arith, z))
 
 -- the first of several figures is no zero, so that the number is at least 1 with a zero for each of the others
-figures : (s : List ℕ) → noNeedlessZero s ≡ true → allDigits 10 s ≡ true → (k : ℕ) → 0 < k → valueAfter 10 0 s < 10 ^ k → length s ≤ k
+figures-few : (s : List ℕ) → noNeedlessZero s ≡ true → allDigits 10 s ≡ true → (k : ℕ) → 0 < k → valueAfter 10 0 s < 10 ^ k → length s ≤ k
 unfolding noNeedlessZero allDigits valueAfter
-figures [] p q k h g = omega arith
-figures (b ∷ []) p q k h g = omega arith
-figures (b ∷ c ∷ s) p q k h g =
+figures-few [] p q k h g = omega arith
+figures-few (b ∷ []) p q k h g = omega arith
+figures-few (b ∷ c ∷ s) p q k h g =
     let m : ℕ = suc (length s) in
     let l : 1 * 10 ^ m ≤ (0 * 10 + digitOf b) * 10 ^ m = mul-le-mul-right (10 ^ m) (by-le 1 (0 * 10 + digitOf b) (λ n. n) (λ n. absurd (some (omega arith)))) in
     let a = after-pow 10 (0 * 10 + digitOf b) (c ∷ s) in
@@ -92,16 +92,16 @@ figures (b ∷ c ∷ s) p q k h g =
     some z = true≢false (sym p ∙ ap not (eq-eqb b 48 (zero-digit b z)))
 
 -- a number of n figures that is below 10^k has at most k of them
-abbrev pub Figures : ℕ → Number → Type 0
-Figures n (Got v) = (k : ℕ) → 0 < k → v < 10 ^ k → n ≤ k
-Figures n Bad = Unit {0}
+abbrev pub FewFigures : ℕ → Number → Type 0
+FewFigures n (Got v) = (k : ℕ) → 0 < k → v < 10 ^ k → n ≤ k
+FewFigures n Bad = Unit {0}
 
--- by the tests of a decimal
-pub number-figures : (most : ℕ) (s : List ℕ) → Figures (length s) (numberOf most s)
+-- a decimal that was read has no more figures than its number needs
+pub number-figures : (most : ℕ) (s : List ℕ) → FewFigures (length s) (numberOf most s)
 number-figures most s = go (noNeedlessZero s) (allDigits 10 s) (leb (valueAfter 10 0 s) most) refl refl
   where
-    go : (z t u : Bool) → noNeedlessZero s ≡ z → allDigits 10 s ≡ t → Figures (length s) (cond z (gotIf (t && u) (valueAfter 10 0 s)) Bad)
+    go : (z t u : Bool) → noNeedlessZero s ≡ z → allDigits 10 s ≡ t → FewFigures (length s) (cond z (gotIf (t && u) (valueAfter 10 0 s)) Bad)
     go false t u p q = tt
     go true false u p q = tt
     go true true false p q = tt
-    go true true true p q = figures s p q
+    go true true true p q = figures-few s p q

@@ -1,13 +1,13 @@
--- What a text of digits says: strict decimal numbers (no plus, no needless zero in front, a minus only before a nonzero figure), words of
--- eight hex digits, and bytes of two hex digits each.
+-- The numbers that digits write, each in one way only: decimals, where neither a sign nor a zero may stand that changes nothing; words of
+-- eight hex digits; bytes of two hex digits each.
 use Prim.Native.Nat.{ℕ, _+_, _*_, _%_, _≤_}
 use mathlib.Core.Bool.{Bool, true, false, cond, not, _&&_}
 use mathlib.Core.List.{List, [], _∷_}
-use lib.Dec.{leb, eqb, ltb}
+use lib.Dec.{leb, eqb}
 use lib.IntN.{ℤ, pos}
 use lib.ListN.{length, getD, drop}
 use lib.Seq.{sets}
-use Rattle.laws.specs.Signs.{inRange, valueOf}
+use Rattle.laws.specs.Signs.{inRange, withSign}
 use Rattle.text.specs.declared.Number.{Number}
 use Rattle.text.specs.declared.Number.the-variants.{Got, Bad}
 use Rattle.text.specs.declared.Whole.{Whole}
@@ -46,18 +46,19 @@ plus Bad = Wrong
 
 -- the number below zero; there is no minus zero
 abbrev pub minus : Number → Whole
-minus (Got v) = cond (eqb v 0) Wrong (Is (valueOf true v))
+minus (Got v) = cond (eqb v 0) Wrong (Is (withSign true v))
 minus Bad = Wrong
 
 -- the number -2,147,483,648..2,147,483,647 that s writes
 abbrev pub wholeOf : List ℕ → Whole
 wholeOf s = cond (eqb (getD s 0 0) 45) (minus (numberOf 2147483648 (drop 1 s))) (plus (numberOf 2147483647 s))
 
--- the same, where it is lo..hi
+-- a number, where it is lo..hi
 abbrev pub keptIn : ℤ → ℤ → Whole → Whole
 keptIn lo hi (Is z) = cond (inRange lo hi z) (Is z) Wrong
 keptIn lo hi Wrong = Wrong
 
+-- the number lo..hi that s writes
 abbrev pub wholeIn : ℤ → ℤ → List ℕ → Whole
 wholeIn lo hi s = keptIn lo hi (wholeOf s)
 
@@ -67,7 +68,7 @@ wholeIn lo hi s = keptIn lo hi (wholeOf s)
 abbrev pub wordOf : List ℕ → Number
 wordOf s = cond (eqb (length s) 8) (digitsOf 16 4294967295 s) Bad
 
--- two digits a byte
+-- the bytes that digits write, two for each byte
 unfoldable pub bytesOf : List ℕ → List ℕ
 bytesOf [] = []
 bytesOf (a ∷ []) = []

@@ -25,11 +25,11 @@ signedOf (pos n) = decimalOf n
 signedOf (negsuc k) = 45 ∷ decimalOf (suc k)
 
 -- a number of 32 bits as eight hex digits
-abbrev pub hexOf : ℕ → List ℕ
-hexOf n = lastDigits 16 8 n
+abbrev pub hexWordOf : ℕ → List ℕ
+hexWordOf n = lastDigits 16 8 n
 
 -- a buffer with a text of at most so many bytes from `at` on is last, and r is the place after the text
-pub record Put (most : ℕ) (buf : List ℕ) (at : ℕ) (text : List ℕ) (r : ℕ) (last : List ℕ) : Type 0 where
+pub record PlacedText (most : ℕ) (buf : List ℕ) (at : ℕ) (text : List ℕ) (r : ℕ) (last : List ℕ) : Type 0 where
   pub next : r ≡ at + length text
   pub bytes : last ≡ sets buf at text
   pub short : r ≤ at + most

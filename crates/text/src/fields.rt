@@ -5,7 +5,7 @@ ghost use mathlib.Core.Bool.{cond};
 ghost use Prim.Native.Nat.{_+_, _<_};
 ghost use lib.Dec.{eqb};
 ghost use lib.ListN.{length};
-ghost use Rattle.text.specs.Parts.{fieldsOf, endFrom, spanFrom, nextOf, Field};
+ghost use Rattle.text.specs.Fields.{fieldsOf, endFrom, spanFrom, nextOf, FieldPlace};
 
 // The place of the first tab from `at` on, or the end.
 fn end_of(s: &[u8], at: usize) -> usize
@@ -42,7 +42,7 @@ pub fn next(s: &[u8], p: Span) -> Span
 
 // The place of field n, empty and at the end where there is none.
 pub fn field(s: &[u8], n: usize) -> Span
-    ensures { λ r. ⌜ Field (now (s .entry)) n r ⌝ }
+    ensures { λ r. ⌜ FieldPlace (now (s .entry)) n r ⌝ }
 {
     let mut p = span_from(s, 0);
     let mut k: usize = 0;

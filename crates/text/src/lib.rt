@@ -1,17 +1,18 @@
-// Lines of text as bytes: fields parted by tabs, strict decimal numbers, lowercase hex. Reading answers every input; the workers of
+// Lines of text as bytes: fields separated by tabs, strict decimal numbers, lowercase hex. Reading answers every input; the workers of
 // `write` ask for room.
 pub mod fields;
 pub mod hex;
+pub mod lines;
 pub mod read;
 pub mod write;
 
-// A number without a sign, where a text writes one that is asked for.
+// A number without a sign, or that the text writes none within its bound.
 pub enum Number {
     Got(u32),
     Bad,
 }
 
-// A number of either sign.
+// A whole number of either sign, or that the text writes none within its bounds.
 pub enum Whole {
     Is(i32),
     Wrong,

@@ -6,9 +6,9 @@ use laws::in_range;
 use laws::value_of;
 ghost use mathlib.Core.Path.{_≡_};
 ghost use Prim.Native.Nat.{_≤_};
-ghost use Rattle.text.specs.Parts.{fieldOf};
+ghost use Rattle.text.specs.Fields.{fieldOf};
 ghost use Rattle.text.specs.Digits.{digitOf};
-ghost use Rattle.text.specs.Numbers.{digitsOf, numberOf, AtMost, plus as Numbers·plus, minus as Numbers·minus, wholeOf, keptIn, wholeIn, wordOf};
+ghost use Rattle.text.specs.Numbers.{digitsOf, numberOf, AtMost, plus as Numbers·plus, minus as Numbers·minus, wholeOf, wholeIn, wordOf};
 
 // The value of 0..9 and a..f, and 16 for any other byte.
 pub fn digit(c: u8) -> u8

@@ -1,12 +1,12 @@
 // Numbers written into a lent buffer, behind a room that the caller keeps free: workers.
-use laws::size;
+use laws::unsigned_abs;
 ghost use mathlib.Core.Path.{_≡_};
 ghost use mathlib.Core.List.{_∷_};
 ghost use Prim.Native.Nat.{_+_, _≤_, _<_};
 ghost use lib.ListN.{length};
 ghost use lib.Seq.{sets};
 ghost use Rattle.text.specs.Digits.{glyphOf, lastDigits};
-ghost use Rattle.text.specs.Written.{figuresOf, decimalOf, signedOf, hexOf, Put};
+ghost use Rattle.text.specs.Written.{figuresOf, decimalOf, signedOf, hexWordOf, PlacedText};
 
 // How many figures a number takes.
 fn figures(n: u32) -> usize
@@ -43,7 +43,7 @@ fn figures(n: u32) -> usize
 }
 
 // The digit for a value below 16.
-fn glyph(d: u32) -> u8
+pub fn glyph(d: u32) -> u8
     requires { ⌜ d < 16 ⌝ }
     ensures { λ r. ⌜ r ≡ glyphOf d ⌝ }
 {
@@ -70,7 +70,7 @@ fn spell(n: u32, base: u32, k: usize, buf: &mut [u8], at: usize)
 // n in decimal from `at` on; the place after it.
 pub fn decimal(n: u32, buf: &mut [u8], at: usize) -> usize
     requires { ⌜ at + 10 ≤ length (now buf) ⌝ }
-    ensures { λ r. ⌜ Put 10 (now (buf .entry)) at (decimalOf n) r (now (buf .exit)) ⌝ }
+    ensures { λ r. ⌜ PlacedText 10 (now (buf .entry)) at (decimalOf n) r (now (buf .exit)) ⌝ }
 {
     let k = figures(n);
     spell(n, 10, k, buf, at);
@@ -80,9 +80,9 @@ pub fn decimal(n: u32, buf: &mut [u8], at: usize) -> usize
 // z in decimal from `at` on; the place after it.
 pub fn signed_decimal(z: i32, buf: &mut [u8], at: usize) -> usize
     requires { ⌜ at + 11 ≤ length (now buf) ⌝ }
-    ensures { λ r. ⌜ Put 11 (now (buf .entry)) at (signedOf z) r (now (buf .exit)) ⌝ }
+    ensures { λ r. ⌜ PlacedText 11 (now (buf .entry)) at (signedOf z) r (now (buf .exit)) ⌝ }
 {
-    let n = size(z);
+    let n = unsigned_abs(z);
     if z < 0 {
         buf[at] = 45;
         return decimal(n, buf, at + 1);
@@ -93,7 +93,7 @@ pub fn signed_decimal(z: i32, buf: &mut [u8], at: usize) -> usize
 // n as eight hex digits from `at` on; the place after them.
 pub fn hex_word(n: u32, buf: &mut [u8], at: usize) -> usize
     requires { ⌜ at + 8 ≤ length (now buf) ⌝ }
-    ensures { λ r. ⌜ Put 8 (now (buf .entry)) at (hexOf n) r (now (buf .exit)) ⌝ }
+    ensures { λ r. ⌜ PlacedText 8 (now (buf .entry)) at (hexWordOf n) r (now (buf .exit)) ⌝ }
 {
     spell(n, 16, 8, buf, at);
     at + 8
@@ -102,7 +102,7 @@ pub fn hex_word(n: u32, buf: &mut [u8], at: usize) -> usize
 // A tab and n in decimal from `at` on; the place after them.
 pub fn decimal_field(n: u32, buf: &mut [u8], at: usize) -> usize
     requires { ⌜ at + 11 ≤ length (now buf) ⌝ }
-    ensures { λ r. ⌜ Put 11 (now (buf .entry)) at (9 ∷ decimalOf n) r (now (buf .exit)) ⌝ }
+    ensures { λ r. ⌜ PlacedText 11 (now (buf .entry)) at (9 ∷ decimalOf n) r (now (buf .exit)) ⌝ }
 {
     buf[at] = 9;
     decimal(n, buf, at + 1)
@@ -111,7 +111,7 @@ pub fn decimal_field(n: u32, buf: &mut [u8], at: usize) -> usize
 // A tab and z in decimal from `at` on; the place after them.
 pub fn signed_field(z: i32, buf: &mut [u8], at: usize) -> usize
     requires { ⌜ at + 12 ≤ length (now buf) ⌝ }
-    ensures { λ r. ⌜ Put 12 (now (buf .entry)) at (9 ∷ signedOf z) r (now (buf .exit)) ⌝ }
+    ensures { λ r. ⌜ PlacedText 12 (now (buf .entry)) at (9 ∷ signedOf z) r (now (buf .exit)) ⌝ }
 {
     buf[at] = 9;
     signed_decimal(z, buf, at + 1)
@@ -120,7 +120,7 @@ pub fn signed_field(z: i32, buf: &mut [u8], at: usize) -> usize
 // A tab and n as eight hex digits from `at` on; the place after them.
 pub fn word_field(n: u32, buf: &mut [u8], at: usize) -> usize
     requires { ⌜ at + 9 ≤ length (now buf) ⌝ }
-    ensures { λ r. ⌜ Put 9 (now (buf .entry)) at (9 ∷ hexOf n) r (now (buf .exit)) ⌝ }
+    ensures { λ r. ⌜ PlacedText 9 (now (buf .entry)) at (9 ∷ hexWordOf n) r (now (buf .exit)) ⌝ }
 {
     buf[at] = 9;
     hex_word(n, buf, at + 1)

@@ -50,5 +50,6 @@ zero-at zero i = refl
 zero-at (suc n) zero = refl
 zero-at (suc n) (suc i) = zero-at n i
 
+-- every entry of a list of zeros is in range
 pub zeros-in : (most start end n : ℕ) → OthersIn most start end (replicate n (pos 0))
 zeros-in most start end n i h = rw (zero-at n i) (count-in most 0 (omega arith))

@@ -8,16 +8,15 @@ use lib.IntN.{ℤ, pos}
 use lib.Ieee.{Float}
 use lib.ListN.{length}
 use lib.Signed.{ltZ, leZ}
-use Rattle.laws.specs.Lists.{every}
 use Rattle.laws.specs.Signs.{inRange}
 use Rattle.laws.proofs.Lists.{fill-length}
 use Rattle.entcode.specs.Refusal.{refusal}
 use Rattle.entdec.specs.declared.Reader.{Reader}
 use Rattle.entdec.specs.Rule.{readRefusal}
-use Rattle.rate_def.specs.Asked.{In}
-use Rattle.rate.specs.declared.Numbers.{Numbers}
-use Rattle.rate.specs.Question.{Lists, allocInput, frameOf, numbersOk, sized}
-use Rattle.rate.specs.Answer.{listed}
+use Rattle.rate_spec.specs.Types.{AllocIn}
+use Rattle.rate.specs.declared.AllocNumbers.{AllocNumbers}
+use Rattle.rate.specs.Question.{Lists, allocInput, allocCounts, numbersOk}
+use Rattle.rate.specs.Answer.{withFigure}
 use Rattle.rate.proofs.Accepts as accepts
 use Rattle.quant_bands.specs.Question.{bandsOk, energiesOk, energiesSized, finesOk, refusalFinalise}
 use Rattle.together.specs.Finalise.{LentFit, ReadIsTaken, TakenByFinalise, WrittenIsTaken, ZerosFit}
@@ -25,7 +24,7 @@ use Rattle.together.proofs.Accepted.{Shared, read-shared, written-share
 use Rattle.together.proofs.Entries.{filled-in, zeros-in}
 
 -- the numbers of an allocation that was accepted are those of the last bits
-bands-ok : (q : Numbers) → numbersOk q ≡ true → bandsOk (q .c) (q .start) (q .end) ≡ true
+bands-ok : (q : AllocNumbers) → numbersOk q ≡ true → bandsOk (q .c) (q .start) (q .end) ≡ true
 unfolding numbersOk bandsOk
 bands-ok q e =
     let a = and-eq-true-iff _ _ .0 e in
@@ -52,30 +51,37 @@ three-not false b d e h = omega arith
 -- two lists of 21 that pass decide nothing
 module _ (m : Lists) (fits : finesOk (m .fine) (m .priorities) ≡ true) (fine : length (m .fine) ≡ 21) (priorities : length (m .priorities) ≡ 21)
     (c start end : ℤ) (s : List ℕ) (d : Reader) (es : List Float) where
-  two-pass : refusalFinalise c start end (m .fine) (m .priorities) s d es ≡ readRefusal (length s) d (energiesSized (length es)) (bandsOk c start end) (energiesOk es) 0
+  -- lists that pass decide nothing
+  two-pass : refusalFinalise c start end (m .fine) (m .priorities) s d es ≡ readRefusal (length s) d (energiesSized (length es)) (bandsOk c start end)
+      (energiesOk es) 0
   unfolding refusalFinalise
   two-pass = rw (fine, priorities, fits, and-true (energiesSized (length es)), and-true (energiesSized (length es)), and-true (energiesOk es))
 
+  -- so the call is not refused as 3 where the energies are finite
   never-three : energiesOk es ≡ true → refusalFinalise c start end (m .fine) (m .priorities) s d es ≡ 3 → ⊥
   unfolding readRefusal
   never-three e h = three-not _ _ _ _ (rw (two-pass, e) at h)
 
 -- an allocation's lists
-module _ {q : Numbers} {offsets caps : List ℤ} {l m : Lists} (g : Shared q offsets caps l m) (o : LentFit q l) where
-  abbrev a : In
+module _ {q : AllocNumbers} {offsets caps : List ℤ} {l m : Lists} (g : Shared q offsets caps l m) (o : LentFit q l) where
+  -- the definition's input
+  abbrev a : AllocIn
   a = allocInput q offsets caps
 
-  fits-here : finesOk (listed a (λ b. b .fine) (g .out) (l .fine)) (listed a (λ b. b .prio) (g .out) (l .priorities)) ≡ true
-  unfolding frameOf
+  -- the allocation's fine bits and priorities pass
+  fits-here : finesOk (withFigure a (λ b. b .fine) (g .out) (l .fine)) (withFigure a (λ b. b .prio) (g .out) (l .priorities)) ≡ true
+  unfolding allocCounts
   fits-here =
       and-eq-true-iff _ _ .1 (
         filled-in 8 (λ j. g .out .band j .fine) (a .start) (a .end) (l .fine) (g .bands .fine-le) (o .fine),
         filled-in 1 (λ j. g .out .band j .prio) (a .start) (a .end) (l .priorities) (g .bands .prio-le) (o .priorities),
       )
 
+  -- so do the lists after the call
   fits-after : finesOk (m .fine) (m .priorities) ≡ true
   fits-after = rw (g .are) fits-here
 
+  -- they have 21 entries
   lengths : (length (m .fine) ≡ 21) × (length (m .priorities) ≡ 21)
   lengths =
       let z = accepts.sized (length offsets) (length caps) (length (l .pulses)) (length (l .fine)) (length (l .priorities)) (g .sizes) in (
@@ -83,6 +89,7 @@ module _ {q : Numbers} {offsets caps : List ℤ} {l m : Lists} (g : Shared q off
         ap (λ (x : Lists). length (x .priorities)) (g .are) ∙ fill-length _ (a .end - a .start) (a .start) (l .priorities) ∙ z .priorities-is,
       )
 
+  -- all that is claimed of them
   taken : TakenByFinalise q m
   taken =
       record {
@@ -92,11 +99,14 @@ module _ {q : Numbers} {offsets caps : List ℤ} {l m : Lists} (g : Shared q off
         numbers = bands-ok q (g .known);
       }
 
+-- of an allocation that was read
 pub read-is-taken : ReadIsTaken
 read-is-taken q offsets caps s d l m y o e = taken (read-shared q offsets caps s d l m y e) o
 
+-- of one that was written
 pub written-is-taken : WrittenIsTaken
 written-is-taken q h offsets caps w l m b y o e = taken (written-shared q h offsets caps w l m b y e) o
 
+-- lists of zeros are in range
 pub zeros-fit : ZerosFit
 zeros-fit q n = record { fine = zeros-in 8 _ _ n; priorities = zeros-in 1 _ _ n }

@@ -1,3 +1,4 @@
+-- Whole square roots, the f32 near them, the vector that is read, its mask, the call's refusals, and the promises.
 pub mod Squares
 pub mod Quotient
 pub mod Spacing
@@ -8,4 +9,4 @@ pub mod Said
 pub mod Vectors
 pub mod Masks
 pub mod Finite
-pub mod Figures
+pub mod Promises

@@ -15,6 +15,7 @@ use Rattle.laws.proofs.Tests.{le-or-lt}
 use Rattle.vq.specs.Root.{sq, rootOf, Nearest}
 use Rattle.vq.proofs.Nearer.{root-nearest}
 
+-- equal fractions have the same bits
 bits-same : (f : Format) (m n : ℕ) (e d : ℤ) → m * up e * down d ≡ n * up d * down e → toBits f (fin false m e) ≡ toBits f (fin false n d)
 unfolding toBits
 bits-same f m n e d h =
@@ -22,10 +23,12 @@ bits-same f m n e d h =
     (div-same (m * up e * 2 ^ low f) (down e) (n * up d * 2 ^ low f) (down d) (down-pos e) (down-pos d)
     (mul-right-comm (m * up e) (2 ^ low f) (down d) ∙ ap (λ (x : ℕ). x * 2 ^ low f) h ∙ mul-right-comm (n * up d) (down e) (2 ^ low f)))
 
+-- so they are one value
 same-size : (f : Format) (x y : Float) → T (fits f x) → T (fits f y) → T (positive x) → T (positive y) → num x * den y ≡ num y * den x → x ≡ y
 same-size f (fin false m e) (fin false n d) a b p q h =
     sym (ofBits-toBits f (fin false m e) a) ∙ ap (ofBits f) (bits-same f m n e d h) ∙ ofBits-toBits f (fin false n d) b
 
+-- the order of two values, from whole numbers
 cross→lt : (x y : Float) → T (positive x) → T (positive y) → num x * den y < num y * den x → T (lt x y)
 unfolding lt
 cross→lt (fin false m e) (fin false n d) p q h = lt→ltb (m * up e * down d) (n * up d * down e) h

@@ -18,11 +18,12 @@ use Rattle.entdec.specs.Rule.{readerOk, readRefusal}
 use Rattle.cwrs_counts.specs.Count.{Vn}
 use Rattle.cwrs.proofs.Refusing.{late}
 use Rattle.vq.specs.declared.ReadShape.{ReadShape}
-use Rattle.vq.specs.declared.Shaped.the-variants.{Got, Refused}
-use Rattle.vq.specs.Answer.{lengthOk, numbersOk, ownShape, formed, answerR}
+use Rattle.vq.specs.declared.Shaped.the-variants.{Done, Refused}
+use Rattle.vq.specs.Answer.{lengthOk, numbersOk, specialShape, after, answerR}
 
 -- ---- the domain
 
+-- `numbersOk` as facts
 pub record Domain (n k spread b : ℤ) : Type 0 where
   pub places : CountIn 2 176 n
   pub pulses : CountIn 1 128 k
@@ -31,13 +32,14 @@ pub record Domain (n k spread b : ℤ) : Type 0 where
   pub whole : clip n % clip b ≡ 0
 
 module _ (n k spread b : ℤ) (e : numbersOk n k spread b ≡ true) where
-  -- the tests of N and K, which the call's own numbers lean on
+  -- the tests of N and K, which the call's own numbers depend on
   pub counted : (inRange (pos 2) (pos 176) n && inRange (pos 1) (pos 128) k) ≡ true
   unfolding numbersOk
   counted =
       let a = and-eq-true-iff _ _ .0 e in
       and-eq-true-iff _ _ .0 (a .0) .0
 
+  -- the test gives the facts
   pub domain : Domain n k spread b
   unfolding numbersOk
   domain =
@@ -53,41 +55,48 @@ module _ (n k spread b : ℤ) (e : numbersOk n k spread b ≡ true) where
         whole = eqb-true (clip n % clip b) 0 (p .1);
       }
 
+-- the test of the length tells it
 pub length-is : (n : ℤ) (places : ℕ) → lengthOk n places ≡ true → clip n ≡ places
 length-is n places e = eqb-true (clip n) places (and-eq-true-iff (leZ (pos 0) n) (eqb (clip n) places) .0 e .1)
 
 -- ---- the call's own numbers, 7 and then 9
 
 module _ (n k spread : ℕ) where
-  pub own-seven : 4294967296 ≤ Vn n k → 7 ≡ ownShape n k spread
-  unfolding ownShape
-  own-seven h = rw (le-ltb (Vn n k) 4294967296 h)
+  -- the count does not fit: 7
+  pub special-seven : 4294967296 ≤ Vn n k → 7 ≡ specialShape n k spread
+  unfolding specialShape
+  special-seven h = rw (le-ltb (Vn n k) 4294967296 h)
 
-  pub own-nine : Vn n k < 4294967296 → (ltb (2 * k) n && ltb 0 spread) ≡ true → 9 ≡ ownShape n k spread
-  unfolding ownShape
-  own-nine h e = rw (lt-ltb (Vn n k) 4294967296 h, e)
+  -- it fits, and a rotation would be due: 9
+  pub special-nine : Vn n k < 4294967296 → (ltb (2 * k) n && ltb 0 spread) ≡ true → 9 ≡ specialShape n k spread
+  unfolding specialShape
+  special-nine h e = rw (lt-ltb (Vn n k) 4294967296 h, e)
 
-  pub own-none : Vn n k < 4294967296 → (ltb (2 * k) n && ltb 0 spread) ≡ false → 0 ≡ ownShape n k spread
-  unfolding ownShape
-  own-none h e = rw (lt-ltb (Vn n k) 4294967296 h, e)
+  -- it fits, and none would: no refusal
+  pub special-none : Vn n k < 4294967296 → (ltb (2 * k) n && ltb 0 spread) ≡ false → 0 ≡ specialShape n k spread
+  unfolding specialShape
+  special-none h e = rw (lt-ltb (Vn n k) 4294967296 h, e)
 
-  pub own-fits : ownShape n k spread ≡ 0 → Vn n k < 4294967296
-  unfolding ownShape
-  own-fits e = by-le 4294967296 (Vn n k) (λ h. absurd (omega (arith, rw (le-ltb (Vn n k) 4294967296 h) at e))) (λ h. h)
+  -- no refusal: it fits
+  pub special-fits : specialShape n k spread ≡ 0 → Vn n k < 4294967296
+  unfolding specialShape
+  special-fits e = by-le 4294967296 (Vn n k) (λ h. absurd (omega (arith, rw (le-ltb (Vn n k) 4294967296 h) at e))) (λ h. h)
 
 -- they count only where the numbers are right
-pub late-own : (m : ℕ) (d : Reader) (lengths numbers lists : Bool) {own p : ℕ} → (numbers ≡ true → own ≡ p)
-    → readRefusal m d lengths numbers lists own ≡ readRefusal m d lengths numbers lists p
+pub late-special : (m : ℕ) (d : Reader) (lengths numbers lists : Bool) {special p : ℕ} → (numbers ≡ true → special ≡ p)
+    → readRefusal m d lengths numbers lists special ≡ readRefusal m d lengths numbers lists p
 unfolding readRefusal
-late-own m d lengths numbers lists {own} {p} e = late (eqb (d .storage) m) lengths (readerOk d) numbers lists own p true _ (λ g h. e h)
+late-special m d lengths numbers lists {special} {p} e = late (eqb (d .storage) m) lengths (readerOk d) numbers lists special p true _ (λ g h. e h)
 
 -- ---- the answers by the number
 
-pub answer-got : (m : ℕ) (r : ReadShape) (v x : List Float) → m ≡ 0 → formed (Got r) v ≡ answerR m r v x
+-- number 0: what was read, and its shape
+pub answer-got : (m : ℕ) (r : ReadShape) (v x : List Float) → m ≡ 0 → after (Done r) v ≡ answerR m r v x
 unfolding answer lentAfter
 answer-got m r v x e = rw e
 
-pub answer-refused : (m : ℕ) (r : ReadShape) (v x : List Float) → (m ≡ 0 → ⊥) → formed (Refused m) x ≡ answerR m r v x
+-- any other: the refusal, and the shape as it was
+pub answer-refused : (m : ℕ) (r : ReadShape) (v x : List Float) → (m ≡ 0 → ⊥) → after (Refused m) x ≡ answerR m r v x
 unfolding answer lentAfter
 answer-refused zero r v x h = absurd (h refl)
 answer-refused (suc m) r v x h = refl

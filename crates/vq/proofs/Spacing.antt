@@ -4,7 +4,8 @@ use Prim.Native.Nat.{ℕ, zero, suc, _+_, _-_, _*_, _^_, _%_, _<_, _≤_}
 use mathlib.Core.Path.{_≡_, sym, ap, _∙_, subst}
 use mathlib.Core.Logic.{_⊎_, inl, inr}
 use mathlib.Core.Bool.{Bool, false, _&&_}
-use native.Mathlib.Nat.{le-trans, le-of-eq, le-of-lt, lt-of-lt-of-le, lt-of-le-of-lt, lt-irrefl, mul-assoc, mul-one, mul-lt-mul-of-pos-right, mul-le-mul-right, lt-of-mul-lt-mul-right}
+use native.Mathlib.Nat.{le-trans, le-of-eq, le-of-lt, lt-of-lt-of-le, lt-of-le-of-lt, lt-irrefl, mul-assoc, mul-one, mul-lt-mul-of-pos-right, mul-le-mul-right}
+use native.Mathlib.Nat.{lt-of-mul-lt-mul-right}
 use native.Mathlib.Omega.{arith}
 use lib.Dec.{T, eqb, ltb, leb, ltb→lt}
 use lib.IntN.{ℤ, pos, negsuc}
@@ -27,6 +28,7 @@ digits s p e t =
 abbrev Spaced : ℕ → ℕ → ℕ → Type 0
 Spaced j a d = ((k : ℕ) × (a * 2 ^ j ≡ k * d)) ⊎ (a * 2 ^ j < 8388608 * d)
 
+-- by the exponent
 spaced : (j : ℕ) (y : Float) → T (fits binary32 y) → T (positive y) → Spaced j (num y) (den y)
 spaced j (fin false zero e) t p = absurd (lt-irrefl 0 (ltb→lt 0 0 p))
 spaced j (fin false (suc p) (pos k)) t q = inl (suc p * 2 ^ k * 2 ^ j, sym (mul-one (suc p * 2 ^ k * 2 ^ j)))
@@ -43,6 +45,7 @@ spaced j (fin false (suc p) (negsuc k)) t q = go (le-or-lt (suc k) j)
         let b : 2 ^ (j + 1) ≤ 2 ^ suc k = pow-mono (omega arith) in
         inr (omega (arith, pow-add 2 j 1))
 
+-- the next f32 above m / 2^j is no nearer than (m + 1) / 2^j
 pub above : (m j : ℕ) (y : Float) → T (fits binary32 y) → T (positive y) → 8388608 ≤ m → m * den y < num y * 2 ^ j → (m + 1) * den y ≤ num y * 2 ^ j
 above m j y t p h l = go (spaced j y t p)
   where
@@ -52,6 +55,7 @@ above m j y t p h l = go (spaced j y t p)
         le-trans (mul-le-mul-right (den y) (omega arith)) (le-of-eq (sym (w .1)))
     go (inr w) = absurd (lt-irrefl (m * den y) (lt-of-lt-of-le (lt-of-lt-of-le l (le-of-lt w)) (mul-le-mul-right (den y) h)))
 
+-- and the next below no nearer than (m - 1) / 2^j
 pub below : (m j : ℕ) (y : Float) → T (fits binary32 y) → T (positive y) → 8388608 < m → num y * 2 ^ j < m * den y → num y * 2 ^ j + den y ≤ m * den y
 below m j y t p h l = go (spaced j y t p)
   where

@@ -12,20 +12,24 @@ use borrow.Author.Tests.{leb-true, leb-false}
 use Rattle.laws.proofs.Tests.{split-on, by-le}
 use Rattle.vq.specs.Root.{sq, wholeRoot, closer, scaleOf, Scaling, Floor, Near}
 
+-- squares rise
 pub sq-le : {a b : ℕ} → a ≤ b → a * a ≤ b * b
 sq-le h = mul-le-mul h h
 
 -- ---- scaling by fours
 
+-- 4^j as a power of two
 pub four : (j : ℕ) → 4 ^ j ≡ 2 ^ (2 * j)
 four zero = refl
 four (suc j) =
     let e : 2 * j + 2 ≡ 2 * suc j = omega arith in
     pow-suc 4 j ∙ ap (λ (x : ℕ). x * 4) (four j) ∙ sym (pow-add 2 (2 * j) 2) ∙ ap (λ (x : ℕ). 2 ^ x) e
 
+-- and as a square
 pub four-square : (j : ℕ) → 4 ^ j ≡ 2 ^ j * 2 ^ j
 four-square j = let e : 2 * j ≡ j + j = omega arith in four j ∙ ap (λ (x : ℕ). 2 ^ x) e ∙ pow-add 2 j j
 
+-- a number above 0 has a digit
 size-some : (n : ℕ) → 0 < n → 0 < size n
 size-some n p =
     by-le 1 (size n) (λ g. g)
@@ -67,12 +71,14 @@ shifted n b some top from to =
 
 -- ---- the whole part
 
+-- the whole part of a root of 24 digits
 pub floor-of : (v s : ℕ) → 2 ^ 46 ≤ v → v < 2 ^ 48 → s * s ≤ v → v < (s + 1) * (s + 1) → Floor v s
 floor-of v s l h a b =
     record {
       below = a;
       above = b;
-      least = by-le 8388608 s (λ g. g) (λ g. let q : (s + 1) * (s + 1) ≤ 8388608 * 8388608 = sq-le {a = s + 1} {b = 8388608} (omega arith) in absurd (omega arith));
+      least = by-le 8388608 s (λ g. g) (λ g. let q : (s + 1) * (s + 1) ≤ 8388608 * 8388608 = sq-le {a = s + 1} {b = 8388608} (omega arith) in absurd
+          (omega arith));
       most = by-le 16777216 s (λ g. let q : 16777216 * 16777216 ≤ s * s = sq-le g in absurd (omega arith)) (λ g. g);
     }
 
@@ -82,10 +88,11 @@ mean a d = omega arith
 
 -- s is above the root of v: the mean of s and v / s is not below its whole part, and below s
 pub record Closer (v s t : ℕ) : Type 0 where
-  pub less : t < s
+  pub falls : t < s
   pub least : 8388608 ≤ t
   pub above : v < (t + 1) * (t + 1)
 
+-- one step of the code's search
 pub nearer : (v s : ℕ) → 2 ^ 46 ≤ v → 8388608 ≤ s → v < s * s → Closer v s ((s + v / s) / 2)
 nearer v s l h g =
     let q = v / s in
@@ -100,7 +107,7 @@ nearer v s l h g =
     let w : (q + 1 + s) * (q + 1 + s) ≤ 2 * (t + 1) * (2 * (t + 1)) = sq-le (omega arith) in
     let r : v < (t + 1) * (t + 1) = omega (arith, over, m, w) in
     record {
-      less = omega arith;
+      falls = omega arith;
       least =
           by-le 8388608 t (λ g. g)
           (λ g. let k : (t + 1) * (t + 1) ≤ 8388608 * 8388608 = sq-le {a = t + 1} {b = 8388608} (omega arith) in absurd (omega arith));
@@ -114,6 +121,7 @@ digit v t a b =
     split-on (leb (sq (2 * t + 1)) v) (λ e. let l = leb-true (sq (2 * t + 1)) v e in rw e (l, omega arith))
     (λ e. let l = leb-false (sq (2 * t + 1)) v e in rw e (omega arith, l))
 
+-- a binary digit at a time
 pub whole-root : (k v : ℕ) → v < 4 ^ k → (wholeRoot k v * wholeRoot k v ≤ v) × (v < (wholeRoot k v + 1) * (wholeRoot k v + 1))
 unfolding wholeRoot
 whole-root zero v h = (omega arith, omega arith)
@@ -124,12 +132,15 @@ whole-root (suc k) v h =
 
 -- ---- the nearest whole number
 
+-- the root is in the lower half
 pub near-down : (v s : ℕ) → Floor v s → v ≤ s * s + s → Near v s
 near-down v s f h = record { below = omega arith; above = h; least = f .least; most = omega arith; exact = λ x. f .below }
 
+-- the root is in the upper half
 pub near-up : (v s : ℕ) → Floor v s → s * s + s < v → Near v (s + 1)
 near-up v s f h = record { below = omega arith; above = omega arith; least = omega arith; most = omega arith; exact = λ x. omega arith }
 
+-- by which half it is in
 pub near-of : (v s : ℕ) → Floor v s → Near v (closer v s)
 near-of v s f =
     split-on (leb v (s * s + s)) (λ e. rw e (near-down v s f (leb-true v (s * s + s) e))) (λ e. rw e (near-up v s f (leb-false v (s * s + s) e)))

@@ -26,12 +26,14 @@ place-le [] i = omega arith
 place-le (y ∷ v) zero = omega (arith, pulses-cons y v)
 place-le (y ∷ v) (suc i) = omega (arith, pulses-cons y v, place-le v i)
 
+-- what a shape asks of its vector: its places, few pulses, and an energy that is not 0
 pub record Vector (n : ℕ) (v : List ℤ) : Type 0 where
   pub long : length v ≡ n
   pub few : pulses v ≤ 128
   pub some : 0 < energy v
   pub most : energy v ≤ 16384
 
+-- a vector that is read has that
 pub read-vector : (n k : ℕ) (s : List ℕ) (d : Reader) → 2 ≤ n → 1 ≤ k → k ≤ 128 → Vector n (readWord n k s d)
 read-vector n k s d a b h =
     let v = readWord n k s d in
@@ -40,9 +42,10 @@ read-vector n k s d a b h =
     let l : pulses v ≤ 128 = omega arith in
     record { long = r .long; few = l; some = energy-pos v (omega arith); most = omega (arith, energy-le 128 v l) }
 
--- ---- as the code finds it: y is the room after the vector was read into its first places, and f what was found
+-- ---- as the code finds it: y is the 176 places after the vector was read into the first of them, and f what was found
 
 module _ (n k : ℕ) (s : List ℕ) (d : Reader) (rest : List ℤ) {y : List ℤ} {f : Found} (found : f ≡ foundOf n k s d) (is : y ≡ readWord n k s d ++ rest) where
+  -- the first places are the vector
   pub first-is : take n y ≡ readWord n k s d
   first-is = rw (is, word-first)
 

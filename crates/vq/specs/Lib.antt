@@ -1,5 +1,6 @@
--- Shapes: the square root of an energy, a shape and its collapse mask, and the whole call.
+-- Shapes: the square root of an energy, a shape and its collapse mask, the whole call, and what is promised beside it.
 pub mod Root
 pub mod Shape
 pub mod Mask
 pub mod Answer
+pub mod Promises

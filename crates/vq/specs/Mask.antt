@@ -1,4 +1,4 @@
--- Which parts of a vector hold a pulse: vq.rs, extract_collapse_mask.
+-- Which parts of a vector hold a pulse.
 use Prim.Native.Nat.{ℕ, zero, suc, _+_, _*_, _/_, _^_}
 use mathlib.Core.Bool.{Bool, cond}
 use mathlib.Core.List.{List}
@@ -16,11 +16,11 @@ silent v = every (inRange (pos 0) (pos 0)) v
 abbrev pub part : ℕ → ℕ → List ℤ → List ℤ
 part m i v = take m (drop (i * m) v)
 
--- the first b parts of m places each: bit i is set when part i holds a pulse
-unfoldable pub bitsOf : ℕ → ℕ → List ℤ → ℕ
-bitsOf m zero v = 0
-bitsOf m (suc i) v = bitsOf m i v + cond (silent (part m i v)) 0 (2 ^ i)
+-- the parts that are not silent, of the first b with m places each: part i counts 2^i
+unfoldable pub maskBits : ℕ → ℕ → List ℤ → ℕ
+maskBits m zero v = 0
+maskBits m (suc i) v = maskBits m i v + cond (silent (part m i v)) 0 (2 ^ i)
 
--- the mask of b parts: 1 when there is one part
+-- the collapse mask of b parts (extract_collapse_mask); a vector in one part has the mask 1, whatever it holds
 abbrev pub collapse : ℕ → List ℤ → ℕ
-collapse b v = cond (leb b 1) 1 (bitsOf (length v / b) b v)
+collapse b v = cond (leb b 1) 1 (maskBits (length v / b) b v)

@@ -21,7 +21,7 @@ pub record Nearest (n : ℕ) (r : Float) : Type 0 where
   pub under : (y : Float) → T (fits binary32 y) → T (positive y) → T (lt r y) → 4 * n * sq (den r * den y) < sq (num r * den y + num y * den r)
   pub over : (y : Float) → T (fits binary32 y) → T (positive y) → T (lt y r) → sq (num r * den y + num y * den r) < 4 * n * sq (den r * den y)
 
--- ---- which f32 that is: for every n from 1 to 2^48 - 1, `rootOf n` is Nearest n, and no other r is
+-- ---- which f32 that is, as Promises.antt states it
 
 -- the whole part of the square root of a v below 4^k, a binary digit at a time
 unfoldable pub wholeRoot : ℕ → ℕ → ℕ

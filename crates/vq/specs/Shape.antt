@@ -1,4 +1,4 @@
--- A shape from its pulses: vq.rs, normalise_residual. Each f32 operation is rounded once, in the order of the Rust.
+-- A shape from its pulses. Each f32 operation is rounded once, in the order of the Rust.
 use Prim.Native.Nat.{ℕ}
 use mathlib.Core.List.{List, map}
 use lib.IntN.{ℤ, pos}
@@ -8,14 +8,14 @@ use Rattle.cwrs.specs.Word.{energy}
 use Rattle.vq.specs.Root.{rootOf}
 
 -- 1
-abbrev pub one : Float
-one = fin false 1 (pos 0)
+abbrev pub floatOne : Float
+floatOne = fin false 1 (pos 0)
 
 -- (1 / √energy) · gain
 abbrev pub factorOf : ℕ → Float → Float
-factorOf energy gain = mul binary32 (div binary32 one (rootOf energy)) gain
+factorOf energy gain = mul binary32 (div binary32 floatOne (rootOf energy)) gain
 
--- each of the numbers times g
+-- each of the numbers times g (normalise_residual, with the factor above for g)
 unfoldable pub scaled : Float → List ℤ → List Float
 scaled g v = map (λ (y : ℤ). mul binary32 g (ofInt binary32 y)) v
 

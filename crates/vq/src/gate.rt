@@ -5,7 +5,7 @@ ghost use Prim.Native.Nat.{_≤_};
 ghost use lib.IntN.{pos};
 ghost use Rattle.laws.specs.Signs.{clip, inRange};
 ghost use Rattle.entdec.specs.Rule.{readRefusal};
-ghost use Rattle.vq.specs.Answer.{lengthOk, partsOk, numbersOk, gainOk, ownShape};
+ghost use Rattle.vq.specs.Answer.{lengthOk, partsOk, numbersOk, gainOk, specialShape};
 use cwrs_counts::pvq_v;
 use entdec::Reader;
 use laws::clipped;
@@ -46,7 +46,7 @@ pub fn gain_ok(gain: f32) -> bool
 // 7 where V(n, k) is 2^32 or more, and then 9 where a rotation would be due.
 fn due(n: usize, k: usize, spread: u32) -> u32
     requires { ⌜ (2 ≤ n) × (n ≤ 176) × (1 ≤ k) × (k ≤ 128) ⌝ }
-    ensures { λ r. ⌜ r ≡ ownShape n k spread ⌝ }
+    ensures { λ r. ⌜ r ≡ specialShape n k spread ⌝ }
 {
     if pvq_v(n, k) == 0 {
         return 7;
@@ -58,8 +58,8 @@ fn due(n: usize, k: usize, spread: u32) -> u32
 }
 
 // The same, and 0 outside the domain, where 1 is given first.
-fn own_shape(n: i32, k: i32, spread: i32) -> u32
-    ensures { λ r. ⌜ r ≡ cond (inRange (pos 2) (pos 176) n && inRange (pos 1) (pos 128) k) (ownShape (clip n) (clip k) (clip spread)) 0 ⌝ }
+fn special_shape(n: i32, k: i32, spread: i32) -> u32
+    ensures { λ r. ⌜ r ≡ cond (inRange (pos 2) (pos 176) n && inRange (pos 1) (pos 128) k) (specialShape (clip n) (clip k) (clip spread)) 0 ⌝ }
 {
     if in_range(n, 2, 176) & in_range(k, 1, 128) {
         due(clipped(n) as usize, clipped(k) as usize, clipped(spread))
@@ -79,11 +79,11 @@ pub fn refusal_shape(
     b: i32,
     gain: f32,
 ) -> u32
-    ensures { λ r. ⌜ r ≡ readRefusal bytes d (lengthOk n places) (numbersOk n k spread b) (gainOk gain) (ownShape (clip n) (clip k) (clip spread)) ⌝ }
+    ensures { λ r. ⌜ r ≡ readRefusal bytes d (lengthOk n places) (numbersOk n k spread b) (gainOk gain) (specialShape (clip n) (clip k) (clip spread)) ⌝ }
 {
     let lengths = length_ok(n, places);
     let known = numbers_ok(n, k, spread, b);
     let unit = gain_ok(gain);
-    let own = own_shape(n, k, spread);
-    d.refusal(bytes, lengths, known, unit, own)
+    let special = special_shape(n, k, spread);
+    d.refusal(bytes, lengths, known, unit, special)
 }

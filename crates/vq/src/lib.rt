@@ -1,6 +1,6 @@
 // Shapes of bands from their pulse words, without rotation: vq.rs; RFC 6716, section 4.3.4.
 ghost use mathlib.Core.Path.{_≡_};
-ghost use Rattle.vq.specs.Answer.{asked, formed, unquantised};
+ghost use Rattle.vq.specs.Answer.{shapeRequest, after, unquantised};
 use entdec::Reader;
 
 pub mod gate;
@@ -15,7 +15,7 @@ pub struct ReadShape {
 
 // What the call answers: what was read, or the number of the refusal.
 pub enum Shaped {
-    Got(ReadShape),
+    Done(ReadShape),
     Refused(u32),
 }
 
@@ -30,7 +30,7 @@ pub fn alg_unquant(
     b: i32,
     gain: f32,
 ) -> Shaped
-    ensures { λ r. ⌜ formed r (now (shape .exit)) ≡ unquantised (asked n k spread b gain) (now (s .entry)) d (now (shape .entry)) ⌝ }
+    ensures { λ r. ⌜ after r (now (shape .exit)) ≡ unquantised (shapeRequest n k spread b gain) (now (s .entry)) d (now (shape .entry)) ⌝ }
 {
     let no = gate::refusal_shape(d, s.len(), shape.len(), n, k, spread, b, gain);
     if no == 0 {
@@ -38,7 +38,7 @@ pub fn alg_unquant(
         let pulses = laws::clipped(k) as usize;
         let parts = laws::clipped(b) as usize;
         let r = work::unquant(d, s, shape, places, pulses, parts, gain);
-        Shaped::Got(r)
+        Shaped::Done(r)
     } else {
         Shaped::Refused(no)
     }

@@ -21,7 +21,7 @@ fn scale(n: u32) -> Scaled
     }
 }
 
-// The whole part of the square root of v: from above, each turn takes the mean of s and v / s.
+// The whole part of the square root of v: from above, each step takes the mean of s and v / s.
 fn floor_root(v: u64) -> u64
     requires { ⌜ (2 ^ 46 ≤ v) × (v < 2 ^ 48) ⌝ }
     ensures { λ s. ⌜ Floor v s ⌝ }

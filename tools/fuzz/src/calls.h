@@ -2,7 +2,7 @@
 #ifndef CALLS_H
 #define CALLS_H
 
-#include "celt.h"
+#include "gurthapen.h"
 #include "chance.h"
 #include "lend.h"
 #include "pool.h"
@@ -22,18 +22,18 @@ enum which {
     CALLS
 };
 
-/* try_NAME makes one call of celt_NAME by chance and looks at all it left. */
+/* try_NAME makes one call of gurthapen_NAME at random and looks at all it left. */
 #define X(name) void try_##name(void);
 EVERY_CALL(X)
 #undef X
 
-/* A coder that can be used: one that is closed, or told past its end, is mostly begun anew first. */
+/* A coder that can be used: one that is closed, or whose tell is past its end, is mostly begun anew first. */
 struct coder *fresh_reader(void);
 struct coder *fresh_writer(void);
 
 /* A reader's state after an answered call; the refusal of a read, by document 01's rule. */
 void look_at_reader(const struct lent *state, size_t bytes);
-uint32_t refused_read(const struct lent *state, const struct lent *bytes, int lengths, int numbers, int lists, uint32_t own);
+uint32_t refused_read(const struct lent *state, const struct lent *bytes, int lengths, int numbers, int lists, uint32_t special);
 
 /* What a symbol is made of: a table's entries, at most 256, and how many there are; a bound and a number below it; a pair of the Laplace model. */
 size_t some_table(uint32_t ftb, uint8_t *entries);
@@ -61,7 +61,7 @@ extern uint64_t agreed, not_closed, refused_by[4];
 /* One call: what it answered, which must be `want`. */
 void enter(enum which call);
 uint32_t leave(uint32_t answer, uint32_t want);
-#define CALL(name, want, ...) (enter(CALL_##name), hide((want) == 2), leave(celt_##name(__VA_ARGS__), want))
+#define CALL(name, want, ...) (enter(CALL_##name), hide((want) == 2), leave(gurthapen_##name(__VA_ARGS__), want))
 
 /* What is left is as it must be. */
 #define MUST(test)                                                                                                                          \

@@ -21,12 +21,12 @@ static void look_at_writer(const struct lent *state, size_t bytes, int closed) {
     MUST(before[10] == 0 || s[10] != 0); /* a mark is never lost */
 }
 
-uint32_t refused_read(const struct lent *state, const struct lent *bytes, int lengths, int numbers, int lists, uint32_t own) {
-    return refusal_of_reader(state->at, state->count, bytes->count, lengths, numbers, lists, own);
+uint32_t refused_read(const struct lent *state, const struct lent *bytes, int lengths, int numbers, int lists, uint32_t special) {
+    return refusal_of_reader(state->at, state->count, bytes->count, lengths, numbers, lists, special);
 }
 
-static uint32_t refused_write(const struct lent *state, const struct lent *bytes, int lengths, int numbers, int lists, uint32_t own) {
-    return refusal_of_writer(state->at, state->count, bytes->count, lengths, numbers, lists, own);
+static uint32_t refused_write(const struct lent *state, const struct lent *bytes, int lengths, int numbers, int lists, uint32_t special) {
+    return refusal_of_writer(state->at, state->count, bytes->count, lengths, numbers, lists, special);
 }
 
 /* ---- begin and close */
@@ -37,7 +37,7 @@ static void begin(struct coder *c, int reads) {
     struct lent *bytes;
     uint32_t want;
     some_packet(c);
-    c->live = 0;
+    c->usable = 0;
     n = spoilt() ? 1276 + below(100) : c->n;
     bytes = lend("bytes", 1, n);
     memset(bytes->at, 0x5c, n);
@@ -65,14 +65,14 @@ void try_enc_new(void) {
 
 struct coder *fresh_reader(void) {
     struct coder *c = some_reader();
-    if (!c->live && !one_in(8))
+    if (!c->usable && !one_in(8))
         begin(c, 1);
     return c;
 }
 
 struct coder *fresh_writer(void) {
     struct coder *c = some_writer();
-    if (!c->live && !one_in(8))
+    if (!c->usable && !one_in(8))
         begin(c, 0);
     return c;
 }
@@ -87,7 +87,7 @@ void try_enc_close(void) {
         look_at_writer(state, bytes->count, 1);
         keep_packet(bytes->at, bytes->count);
         keep_coder(c, state, bytes, 0);
-        c->live = 0;
+        c->usable = 0;
     }
 }
 
@@ -342,7 +342,7 @@ void try_encode_pulses(void) {
     struct coder *c = fresh_writer();
     struct lent *state = lend_state(c, 0, 1), *bytes = lend_bytes(c, 1), *y = lend("y", sizeof(int32_t), length_of(176));
     int32_t *places = y->at;
-    uint32_t n, k, i, want, answer, own;
+    uint32_t n, k, i, want, answer, special;
     uint64_t squares;
     some_size(&n, &k);
     for (i = 0; i < y->count; i++)
@@ -354,10 +354,10 @@ void try_encode_pulses(void) {
         }
     if ((spoilt() || one_in(16)) && y->count > 0)
         places[below(y->count)] = one_in(2) ? (int32_t)any() : (int32_t)below(3) - 1;
-    own = count_refused(n, k);
-    if (own == 0 && n <= y->count && size_of(places, n, &squares) != k)
-        own = 8;
-    want = refused_write(state, bytes, y->count == 176, within(n, 2, 176) && within(k, 1, 128), 1, own);
+    special = count_refused(n, k);
+    if (special == 0 && n <= y->count && size_of(places, n, &squares) != k)
+        special = 8;
+    want = refused_write(state, bytes, y->count == 176, within(n, 2, 176) && within(k, 1, 128), 1, special);
     answer = CALL(encode_pulses, want, LENT(int64_t, state), LENT(uint8_t, bytes), LENT(const int32_t, y), n, k);
     if (answer == 0)
         look_at_writer(state, bytes->count, 0);

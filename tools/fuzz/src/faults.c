@@ -1,17 +1,17 @@
-/* Faults, to see that the driver finds them: celt_dec_bits with one of them, in one call of some hundred, or celt_round_trip. Linked with --wrap of both;
- * FAULT says which. */
+/* Faults, to see that the driver finds them: gurthapen_dec_bits with one of them, in one call of some hundred, or gurthapen_round_trip. Linked with
+ * --wrap of both; FAULT says which. */
 #include "calls.h"
 
 #include <stdlib.h>
 
-uint32_t __real_celt_dec_bits(int64_t *state, size_t state_n, const uint8_t *packet, size_t packet_n, uint32_t n, uint32_t *value, size_t value_n);
-uint32_t __wrap_celt_dec_bits(int64_t *state, size_t state_n, const uint8_t *packet, size_t packet_n, uint32_t n, uint32_t *value, size_t value_n);
+uint32_t __real_gurthapen_dec_bits(int64_t *state, size_t state_n, const uint8_t *packet, size_t packet_n, uint32_t n, uint32_t *value, size_t value_n);
+uint32_t __wrap_gurthapen_dec_bits(int64_t *state, size_t state_n, const uint8_t *packet, size_t packet_n, uint32_t n, uint32_t *value, size_t value_n);
 
 static volatile uint8_t sink;
 
-uint32_t __wrap_celt_dec_bits(int64_t *state, size_t state_n, const uint8_t *packet, size_t packet_n, uint32_t n, uint32_t *value, size_t value_n) {
+uint32_t __wrap_gurthapen_dec_bits(int64_t *state, size_t state_n, const uint8_t *packet, size_t packet_n, uint32_t n, uint32_t *value, size_t value_n) {
     static unsigned count;
-    uint32_t answer = __real_celt_dec_bits(state, state_n, packet, packet_n, n, value, value_n);
+    uint32_t answer = __real_gurthapen_dec_bits(state, state_n, packet, packet_n, n, value, value_n);
     /* where a length is wrong most lists cannot be read at all: one fault is for that, and the others are for the rest */
     if (++count % 300 != 0 || (answer == 2) != (FAULT == 15))
         return answer;
@@ -49,7 +49,7 @@ uint32_t __wrap_celt_dec_bits(int64_t *state, size_t state_n, const uint8_t *pac
             sink++;
     case 11: /* leaves a state that breaks its rule */
         if (answer == 0)
-            state[CELT_RNG] = 0;
+            state[GURTHAPEN_RNG] = 0;
         break;
     case 12: /* answers a number that is none of the symbol's */
         if (answer == 0)
@@ -72,15 +72,15 @@ uint32_t __wrap_celt_dec_bits(int64_t *state, size_t state_n, const uint8_t *pac
     const uint8_t *bytes, size_t bytes_n, const uint32_t *symbols, size_t symbols_n, const uint8_t *tables, size_t tables_n, int32_t c, int32_t lm,  \
         int32_t start, int32_t end, int32_t trim, int32_t total, int32_t intensity, int32_t dual, int32_t previous, int32_t bandwidth,       \
         const int32_t *offsets, size_t offsets_n, const int32_t *caps, size_t caps_n, uint64_t *outcome, size_t outcome_n
-uint32_t __real_celt_round_trip(TRIP);
-uint32_t __wrap_celt_round_trip(TRIP);
+uint32_t __real_gurthapen_round_trip(TRIP);
+uint32_t __wrap_gurthapen_round_trip(TRIP);
 
-uint32_t __wrap_celt_round_trip(TRIP) {
-    uint32_t answer = __real_celt_round_trip(bytes, bytes_n, symbols, symbols_n, tables, tables_n, c, lm, start, end, trim, total, intensity, dual, previous,
-                                             bandwidth, offsets, offsets_n, caps, caps_n, outcome, outcome_n);
-    if (FAULT == 13 && answer == 0 && outcome[CELT_ENDED] == CELT_NOT_CLOSED) /* tells what was not closed as agreed */
-        outcome[CELT_ENDED] = CELT_AGREED;
-    if (FAULT == 14 && answer == 0 && outcome[CELT_WHICH] > 8) /* tells another place */
-        outcome[CELT_WHICH]--;
+uint32_t __wrap_gurthapen_round_trip(TRIP) {
+    uint32_t answer = __real_gurthapen_round_trip(bytes, bytes_n, symbols, symbols_n, tables, tables_n, c, lm, start, end, trim, total, intensity,
+                                                  dual, previous, bandwidth, offsets, offsets_n, caps, caps_n, outcome, outcome_n);
+    if (FAULT == 13 && answer == 0 && outcome[GURTHAPEN_ENDED] == GURTHAPEN_NOT_CLOSED) /* tells what was not closed as agreed */
+        outcome[GURTHAPEN_ENDED] = GURTHAPEN_AGREED;
+    if (FAULT == 14 && answer == 0 && outcome[GURTHAPEN_WHICH] > 8) /* tells another place */
+        outcome[GURTHAPEN_WHICH]--;
     return answer;
 }

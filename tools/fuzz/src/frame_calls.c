@@ -85,7 +85,7 @@ void try_alg_unquant(void) {
     int32_t n = number(2, 176), k = number(1, 128), spread, b;
     float gain = some_gain();
     struct lent *shape, *mask = lend_for_result("mask", sizeof(uint32_t), 1);
-    uint32_t want, answer, own = 0;
+    uint32_t want, answer, special = 0;
     int32_t i;
     if (!spoilt() && !one_in(12) && within(n, 2, 176))
         while (k > 1 && (k > 128 || count_of((unsigned)n, (unsigned)k) > UINT32_MAX))
@@ -96,10 +96,10 @@ void try_alg_unquant(void) {
     while (!spoilt() && within(b, 1, 16) && n % b != 0);
     shape = lend_for_result("shape", sizeof(float), n < 0 || n > 1000 ? 7 : (size_t)n);
     if (within(n, 2, 176) && within(k, 1, 128))
-        own = count_of((unsigned)n, (unsigned)k) > UINT32_MAX ? 7 : 2 * k < n && spread != 0 ? 9 : 0;
+        special = count_of((unsigned)n, (unsigned)k) > UINT32_MAX ? 7 : 2 * k < n && spread != 0 ? 9 : 0;
     want = refused_read(state, bytes, n >= 0 && shape->count == (size_t)n && mask->count == 1,
                         within(n, 2, 176) && within(k, 1, 128) && within(spread, 0, 3) && within(b, 1, 16) && n % b == 0,
-                        -1.0f <= gain && gain <= 1.0f, own);
+                        -1.0f <= gain && gain <= 1.0f, special);
     answer = CALL(alg_unquant, want, LENT(int64_t, state), LENT(const uint8_t, bytes), LENT(float, shape), n, k, spread, b, gain, LENT(uint32_t, mask));
     if (answer == 0) {
         const float *x = shape->at;
@@ -305,9 +305,9 @@ static size_t listed(const struct request *q, uint32_t line_number, char *out) {
     size_t n;
     for (j = 0; j < 21; j++)
         most[j] = cap_of(q->c, q->lm, j);
-    MUST(celt_dec_new(state, 12, q->packet, q->packet_n) == 0);
-    MUST(celt_compute_allocation_read(state, 12, q->packet, q->packet_n, q->c, q->lm, q->start, q->end, q->trim, q->total, offsets, 21, most, 21,
-                                      pulses, 21, fine, 21, priorities, 21, shown, 4) == 0);
+    MUST(gurthapen_dec_new(state, 12, q->packet, q->packet_n) == 0);
+    MUST(gurthapen_compute_allocation_read(state, 12, q->packet, q->packet_n, q->c, q->lm, q->start, q->end, q->trim, q->total, offsets, 21, most, 21,
+                                           pulses, 21, fine, 21, priorities, 21, shown, 4) == 0);
     n = (size_t)sprintf(out, "R\t%lu\t%d\t%d\t%d\t%d\n", (unsigned long)line_number, (int)shown[0], (int)shown[1], (int)shown[2], (int)shown[3]);
     for (j = q->start; j < q->end; j++)
         n += (size_t)sprintf(out + n, "B\t%d\t%d\t%d\t%d\n", (int)j, (int)pulses[j], (int)fine[j], (int)priorities[j]);

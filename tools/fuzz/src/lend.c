@@ -82,10 +82,9 @@ void may_change(struct lent *list, size_t from, size_t to) {
     list->parts++;
 }
 
-/* A list that a call reads to know the lengths, of its right length. */
+/* A state of twelve numbers: a call reads it to know how many bytes must be lent. */
 static int tells_lengths(const struct lent *l) {
-    return (strcmp(l->name, "state") == 0 && l->count == 12) || (strcmp(l->name, "energies") == 0 && l->count == 42) ||
-           (strcmp(l->name, "next") == 0 && l->count == 1);
+    return strcmp(l->name, "state") == 0 && l->count == 12;
 }
 
 void hide(int wrong_length) {

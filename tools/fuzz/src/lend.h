@@ -28,8 +28,8 @@ struct lent *lend_for_writing(const char *name, size_t size, size_t count);
 /* An answered call may change these elements only; of several parts, each. */
 void may_change(struct lent *list, size_t from, size_t to);
 
-/* Where a length is wrong the call must not read an entry: it sees every list in a page that can be neither read nor written, but those that it has to read to
- * know the lengths (a state, a record), each of its right length. */
+/* Where a length is wrong the call must not read an entry: it sees every list in a page that can be neither read nor written, but for a state of
+ * twelve numbers, one of which says how many bytes must be lent. */
 void hide(int wrong_length);
 
 /* Takes all lists back. */

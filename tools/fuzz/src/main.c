@@ -1,4 +1,4 @@
-/* Calls of libcelt.a by chance: see tools/fuzz/README.md. */
+/* Calls of libgurthapen.a at random: see tools/fuzz/README.md. */
 #define _GNU_SOURCE
 #include "calls.h"
 
@@ -31,7 +31,7 @@ static volatile enum which current;
 /* Says where it happened; for a signal's handler too. */
 static void say(const char *what, const char *which) {
     char text[400];
-    int n = snprintf(text, sizeof text, "fuzz: %s (%s): celt_%s, call %llu of seed %llu\n", what, which, calls[current].name, (unsigned long long)made,
+    int n = snprintf(text, sizeof text, "fuzz: %s (%s): gurthapen_%s, call %llu of seed %llu\n", what, which, calls[current].name, (unsigned long long)made,
                      (unsigned long long)seed);
     if (write(2, text, (size_t)n) < 0)
         _exit(3);
@@ -100,14 +100,14 @@ static enum which some_call(void) {
 static void report(void) {
     uint64_t all = 0, answered = 0;
     size_t i, j;
-    printf("%-28s %10s %10s %7s  refused as\n", "call", "made", "answered", "share");
+    printf("%-34s %10s %10s %7s  refused as\n", "call", "made", "answered", "share");
     for (i = 0; i < CALLS; i++) {
         uint64_t n = 0;
         for (j = 0; j < ANSWERS; j++)
             n += counts[i][j];
         all += n;
         answered += counts[i][0];
-        printf("celt_%-23s %10llu %10llu %6.1f%% ", calls[i].name, (unsigned long long)n, (unsigned long long)counts[i][0],
+        printf("gurthapen_%-24s %10llu %10llu %6.1f%% ", calls[i].name, (unsigned long long)n, (unsigned long long)counts[i][0],
                n == 0 ? 0.0 : 100.0 * (double)counts[i][0] / (double)n);
         for (j = 0; j < sizeof order / sizeof order[0]; j++)
             if (counts[i][order[j]] != 0)
@@ -118,7 +118,7 @@ static void report(void) {
     printf("round trips: %llu agreed, %llu not closed, refused by new %llu, a symbol %llu, the allocation %llu, close %llu\n", (unsigned long long)agreed,
            (unsigned long long)not_closed, (unsigned long long)refused_by[0], (unsigned long long)refused_by[1], (unsigned long long)refused_by[2],
            (unsigned long long)refused_by[3]);
-    printf("%-28s %10llu %10llu %6.1f%%\n", "all", (unsigned long long)all, (unsigned long long)answered, 100.0 * (double)answered / (double)all);
+    printf("%-34s %10llu %10llu %6.1f%%\n", "all", (unsigned long long)all, (unsigned long long)answered, 100.0 * (double)answered / (double)all);
 }
 
 /* The number after an option. */

@@ -56,7 +56,7 @@ void keep_packet(const uint8_t *bytes, size_t n) {
     kept->n = n;
 }
 
-/* A state of the rule, by chance. */
+/* A state of the rule, at random. */
 static void state_by_chance(int64_t *s, size_t bytes, int reads) {
     int64_t n = (int64_t)bytes;
     s[0] = n;
@@ -121,9 +121,9 @@ void keep_coder(struct coder *c, const struct lent *state, const struct lent *by
         memcpy(c->state, state->at, sizeof c->state);
         memcpy(c->bytes, bytes->at, bytes->count);
         c->n = bytes->count;
-        c->live = 1;
+        c->usable = 1;
     } else if (answer == 4 || answer == 12)
-        c->live = 0;
+        c->usable = 0;
 }
 
 struct lent *lend_energies(const struct record *r, int for_writing) {

@@ -8,7 +8,7 @@ struct coder {
     uint8_t bytes[1275];
     size_t n;
     int64_t state[12];
-    int live; /* begun, not closed, not told past its end */
+    int usable; /* begun, not closed, tell not past its end */
 };
 
 struct record {
@@ -30,7 +30,7 @@ struct line *some_line(void);
 void some_packet(struct coder *c);
 void keep_packet(const uint8_t *bytes, size_t n);
 
-/* The coder's state and bytes, lent. Some are by chance inside the rule; where they are spoilt, damaged, or of any numbers. */
+/* The coder's state and bytes, lent. Some are at random inside the rule; where they are spoilt, damaged, or of any numbers. */
 struct lent *lend_state(const struct coder *c, int reads, int for_writing);
 struct lent *lend_bytes(const struct coder *c, int for_writing);
 
@@ -43,7 +43,7 @@ struct lent *lend_energies(const struct record *r, int for_writing);
 /* A list of 32-bit numbers lo..hi; where it is spoilt, with another among them. */
 struct lent *lend_numbers(const char *name, size_t right, int32_t lo, int32_t hi);
 
-/* A list for writing, filled by chance. */
+/* A list for writing, filled at random. */
 struct lent *lend_for_result(const char *name, size_t size, size_t right);
 
 #endif

@@ -19,9 +19,9 @@ int writer_ok(const int64_t *state);
 int64_t tell_of(const int64_t *state);
 
 /* The refusal of a call on a state list of so many numbers and so many bytes, 0 for none. lengths, numbers, lists: whether the other lengths (2),
- * numbers (1) and entries (3) are right; own: the first of 5 to 11, 0 for none. */
-uint32_t refusal_of_reader(const int64_t *state, size_t state_n, size_t bytes_n, int lengths, int numbers, int lists, uint32_t own);
-uint32_t refusal_of_writer(const int64_t *state, size_t state_n, size_t bytes_n, int lengths, int numbers, int lists, uint32_t own);
+ * numbers (1) and entries (3) are right; special: the first of 5 to 11, 0 for none. */
+uint32_t refusal_of_reader(const int64_t *state, size_t state_n, size_t bytes_n, int lengths, int numbers, int lists, uint32_t special);
+uint32_t refusal_of_writer(const int64_t *state, size_t state_n, size_t bytes_n, int lengths, int numbers, int lists, uint32_t special);
 
 /* A table's rule. */
 int table_ok(const uint8_t *table, size_t n, uint32_t ftb);

@@ -10,7 +10,7 @@ struct field {
     size_t n;
 };
 
-/* The fields of a line, parted by tabs: how many there are, and the first `most` of them. */
+/* The fields of a line, separated by tabs: how many there are, and the first `most` of them. */
 static size_t fields_of(const uint8_t *line, size_t n, struct field *fields, size_t most) {
     size_t i, from = 0, count = 0;
     for (i = 0; i <= n; i++)

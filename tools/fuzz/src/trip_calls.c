@@ -31,8 +31,8 @@ static void some_symbol(struct row *row, uint32_t *s) {
         s[i] = (uint32_t)any() >> below(32);
     s[0] = one_in(30) ? s[0] : (uint32_t)below(5);
     switch (s[0]) {
-    case CELT_BIT: s[1] = (uint32_t)number(0, 1), s[2] = (uint32_t)number(1, 15); break;
-    case CELT_TABLE:
+    case GURTHAPEN_BIT: s[1] = (uint32_t)number(0, 1), s[2] = (uint32_t)number(1, 15); break;
+    case GURTHAPEN_TABLE:
         s[2] = (uint32_t)number(1, 8);
         s[3] = row->tables_n + 256 <= MOST_ENTRIES ? (uint32_t)row->tables_n : 0; /* where there is no room, from the front anew */
         s[4] = (uint32_t)some_table(s[2], row->tables + s[3]);
@@ -40,8 +40,8 @@ static void some_symbol(struct row *row, uint32_t *s) {
             row->tables_n = s[3] + s[4];
         s[1] = below_bound(s[4]);
         break;
-    case CELT_UNIFORM: s[2] = some_bound(), s[1] = below_bound(s[2]); break;
-    case CELT_RAW: s[2] = (uint32_t)number(1, 25), s[1] = below_bound(within(s[2], 1, 25) ? 1u << s[2] : 0); break;
+    case GURTHAPEN_UNIFORM: s[2] = some_bound(), s[1] = below_bound(s[2]); break;
+    case GURTHAPEN_RAW: s[2] = (uint32_t)number(1, 25), s[1] = below_bound(within(s[2], 1, 25) ? 1u << s[2] : 0); break;
     default: s[1] = count_of_value(one_in(2) ? number(-20, 20) : number(-32768, 32767)), some_pair(&s[2], &s[3]);
     }
     if (spoilt())
@@ -67,7 +67,7 @@ static uint32_t must_refuse(const struct row *row, size_t outcome_n) {
         return 2;
     for (i = 0; i < row->n; i += 5) {
         const uint32_t *s = row->numbers + i;
-        if (s[0] > CELT_LAPLACE || (s[0] == CELT_TABLE && (uint64_t)s[3] + s[4] > row->tables_n))
+        if (s[0] > GURTHAPEN_LAPLACE || (s[0] == GURTHAPEN_TABLE && (uint64_t)s[3] + s[4] > row->tables_n))
             no = 1;
     }
     return no;
@@ -84,45 +84,45 @@ struct writer {
 static uint32_t write_symbol(struct writer *w, const uint32_t *s, const uint8_t *tables) {
     int32_t counted;
     switch (s[0]) {
-    case CELT_BIT: return celt_enc_bit_logp(w->state, 12, w->bytes, w->n, s[1], s[2]);
-    case CELT_TABLE: return celt_enc_icdf(w->state, 12, w->bytes, w->n, s[1], tables + s[3], s[4], s[2]);
-    case CELT_UNIFORM: return celt_enc_uint(w->state, 12, w->bytes, w->n, s[1], s[2]);
-    case CELT_RAW: return celt_enc_bits(w->state, 12, w->bytes, w->n, s[1], s[2]);
-    default: return celt_laplace_encode(w->state, 12, w->bytes, w->n, value_of_count(s[1]), s[2], s[3], &counted, 1);
+    case GURTHAPEN_BIT: return gurthapen_enc_bit_logp(w->state, 12, w->bytes, w->n, s[1], s[2]);
+    case GURTHAPEN_TABLE: return gurthapen_enc_icdf(w->state, 12, w->bytes, w->n, s[1], tables + s[3], s[4], s[2]);
+    case GURTHAPEN_UNIFORM: return gurthapen_enc_uint(w->state, 12, w->bytes, w->n, s[1], s[2]);
+    case GURTHAPEN_RAW: return gurthapen_enc_bits(w->state, 12, w->bytes, w->n, s[1], s[2]);
+    default: return gurthapen_laplace_encode(w->state, 12, w->bytes, w->n, value_of_count(s[1]), s[2], s[3], &counted, 1);
     }
 }
 
-static void refused(uint64_t *outcome, enum celt_call by, size_t which, uint32_t why) {
-    outcome[CELT_ENDED] = CELT_REFUSED, outcome[CELT_BY] = by, outcome[CELT_WHICH] = which, outcome[CELT_WHY] = why;
+static void refused(uint64_t *outcome, enum gurthapen_call by, size_t which, uint32_t why) {
+    outcome[GURTHAPEN_ENDED] = GURTHAPEN_REFUSED, outcome[GURTHAPEN_BY] = by, outcome[GURTHAPEN_WHICH] = which, outcome[GURTHAPEN_WHY] = why;
 }
 
 static void written(struct writer *w, const struct lent *symbols, const struct lent *tables, const struct asked *q, const struct wishes *h,
                     uint64_t *outcome) {
     int32_t pulses[21], fine[21], priorities[21], shown[4];
-    uint32_t no = celt_enc_new(w->state, 12, w->bytes, w->n);
+    uint32_t no = gurthapen_enc_new(w->state, 12, w->bytes, w->n);
     size_t i;
     memset(outcome, 0, 4 * sizeof *outcome);
     if (no != 0) {
-        refused(outcome, CELT_BY_NEW, 0, no);
+        refused(outcome, GURTHAPEN_BY_NEW, 0, no);
         return;
     }
     for (i = 0; i < symbols->count / 5; i++)
         if ((no = write_symbol(w, (const uint32_t *)symbols->at + 5 * i, tables->at)) != 0) {
-            refused(outcome, CELT_BY_SYMBOL, i, no);
+            refused(outcome, GURTHAPEN_BY_SYMBOL, i, no);
             return;
         }
-    no = celt_compute_allocation_write(w->state, 12, w->bytes, w->n, q->c, q->lm, q->start, q->end, q->trim, q->total, h->intensity, h->dual,
-                                       h->previous, h->bandwidth, q->offsets->at, q->offsets->count, q->caps->at, q->caps->count, pulses, 21, fine,
-                                       21, priorities, 21, shown, 4);
+    no = gurthapen_compute_allocation_write(w->state, 12, w->bytes, w->n, q->c, q->lm, q->start, q->end, q->trim, q->total, h->intensity, h->dual,
+                                            h->previous, h->bandwidth, q->offsets->at, q->offsets->count, q->caps->at, q->caps->count, pulses, 21, fine,
+                                            21, priorities, 21, shown, 4);
     if (no != 0) {
-        refused(outcome, CELT_BY_ALLOCATION, 0, no);
+        refused(outcome, GURTHAPEN_BY_ALLOCATION, 0, no);
         return;
     }
-    if ((no = celt_enc_close(w->state, 12, w->bytes, w->n)) != 0) {
-        refused(outcome, CELT_BY_CLOSE, 0, no);
+    if ((no = gurthapen_enc_close(w->state, 12, w->bytes, w->n)) != 0) {
+        refused(outcome, GURTHAPEN_BY_CLOSE, 0, no);
         return;
     }
-    outcome[CELT_ENDED] = w->state[CELT_ERROR] != 0 ? CELT_NOT_CLOSED : CELT_AGREED;
+    outcome[GURTHAPEN_ENDED] = w->state[GURTHAPEN_ERROR] != 0 ? GURTHAPEN_NOT_CLOSED : GURTHAPEN_AGREED;
 }
 
 /* ---- the call */
@@ -157,8 +157,8 @@ void try_round_trip(void) {
              q.start, q.end, q.trim, q.total, h.intensity, h.dual, h.previous, h.bandwidth, LENT(const int32_t, q.offsets),
              LENT(const int32_t, q.caps), LENT(uint64_t, outcome)) == 0) {
         MUST(memcmp(outcome->at, must, sizeof must) == 0);
-        agreed += must[CELT_ENDED] == CELT_AGREED;
-        not_closed += must[CELT_ENDED] == CELT_NOT_CLOSED;
-        refused_by[must[CELT_BY]] += must[CELT_ENDED] == CELT_REFUSED;
+        agreed += must[GURTHAPEN_ENDED] == GURTHAPEN_AGREED;
+        not_closed += must[GURTHAPEN_ENDED] == GURTHAPEN_NOT_CLOSED;
+        refused_by[must[GURTHAPEN_BY]] += must[GURTHAPEN_ENDED] == GURTHAPEN_REFUSED;
     }
 }

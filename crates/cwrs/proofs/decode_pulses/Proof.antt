@@ -1,3 +1,4 @@
+-- `cwrs::decode_pulses`: the gate's number is the contract's; behind 0 the worker's vector stands in the places. Assumes nothing.
 use mathlib.Core.Path.{_≡_, sym, _∙_}
 use mathlib.Core.Bool.{true}
 use native.Mathlib.Omega.{arith}
@@ -7,7 +8,7 @@ use borrow.Author.Tests.{eqb-true}
 use denote.Ref.{now}
 use Rattle.entdec.proofs.Accepted.{Open, opened}
 use Rattle.entdec.proofs.Chain.{sound-ready}
-use Rattle.cwrs.specs.Answer.{inDomain, isRoom, ownRead, refusalRead}
+use Rattle.cwrs.specs.Answer.{inDomain, placesSized, specialRead, refusalRead}
 use Rattle.cwrs.proofs.Refusing.{domain, read-fits}
 use Rattle.cwrs.proofs.Answers.{answer-got, answer-refused}
 use borrow.Author.Needs.{needs}
@@ -25,7 +26,7 @@ gated c = c .refusal-read .ensures
 
 -- number 0
 passed : (c : tie.Then1) → let a = c .before .before .before .args in
-    Open (length (now (a .s))) (a .d) (isRoom (now (a .y))) (inDomain (a .n) (a .k)) true (ownRead (a .n) (a .k))
+    Open (length (now (a .s))) (a .d) (placesSized (now (a .y))) (inDomain (a .n) (a .k)) true (specialRead (a .n) (a .k))
 unfolding refusalRead
 passed c = opened _ _ _ _ _ _ (sym (gated (c .before)) ∙ c .if1 .taken)
 

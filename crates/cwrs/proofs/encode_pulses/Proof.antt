@@ -1,3 +1,4 @@
+-- `cwrs::encode_pulses`: the gate's number is the contract's; behind 0 the worker's write is what is answered. Assumes nothing.
 use mathlib.Core.Path.{_≡_, sym, _∙_}
 use native.Mathlib.Omega.{arith}
 use lib.Dec.{lit≤}
@@ -6,7 +7,7 @@ use borrow.Author.Tests.{eqb-true}
 use denote.Ref.{now}
 use Rattle.entenc.specs.Write.{wr}
 use Rattle.entenc.proofs.Taken.{ready-of, say-next, say-no}
-use Rattle.cwrs.specs.Answer.{inDomain, isRoom, ownWrite, refusalWrite, writeWord}
+use Rattle.cwrs.specs.Answer.{inDomain, placesSized, specialWrite, refusalWrite, writeWord}
 use Rattle.cwrs.proofs.Refusing.{Opened, opened, domain, write-fits}
 use borrow.Author.Needs.{needs}
 use Rattle.cwrs.proofs.encode_pulses.Statement.{statement}
@@ -23,7 +24,7 @@ gated c = c .refusal-write .ensures
 
 -- number 0
 passed : (c : tie.Then1) → let a = c .before .before .before .args in
-    Opened (length (now (a .buf))) (a .w) (isRoom (now (a .y))) (inDomain (a .n) (a .k)) (ownWrite (now (a .y)) (a .n) (a .k))
+    Opened (length (now (a .buf))) (a .w) (placesSized (now (a .y))) (inDomain (a .n) (a .k)) (specialWrite (now (a .y)) (a .n) (a .k))
 unfolding refusalWrite
 passed c = opened _ _ _ _ _ (sym (gated (c .before)) ∙ c .if1 .taken)
 

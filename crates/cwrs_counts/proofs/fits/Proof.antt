@@ -1,3 +1,4 @@
+-- `cwrs_counts::fits`: rows and columns may change places, so the lower of the two picks the row. Assumes nothing.
 use Prim.Native.Nat.{ℕ}
 use mathlib.Core.Path.{_∙_, ap}
 use lib.Dec.{ltb}

@@ -1,3 +1,4 @@
+-- `cwrs_counts::pvq_u`: rows and columns may change places, so the lower of the two picks the row. Assumes nothing.
 use mathlib.Core.Path.{_∙_}
 use native.Mathlib.Omega.{arith}
 use Rattle.cwrs_counts.proofs.Recurrence.{U-sym}

@@ -1,3 +1,4 @@
+-- `cwrs_counts::pvq_v`: V is the sum of two neighbours of U, and the second of them is the greater. Assumes nothing.
 use Prim.Native.Nat.{ℕ, _+_, _≤_, _<_}
 use mathlib.Core.Path.{_≡_, sym, _∙_}
 use native.Mathlib.Omega.{arith}

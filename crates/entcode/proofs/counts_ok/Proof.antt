@@ -1,3 +1,4 @@
+-- `entcode::counts_ok`: the code has the tests in the order of the definition. Assumes nothing.
 use mathlib.Core.Path.{refl}
 use Rattle.entcode.specs.Counts.{countsOk}
 use Rattle.entcode.proofs.counts_ok.Statement.{statement}

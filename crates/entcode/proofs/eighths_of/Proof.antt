@@ -1,3 +1,4 @@
+-- `entcode::eighths_of`: the table of corrections against the three squarings, above the entry and up to it. Assumes nothing.
 use borrow.Author.Needs.{needs}
 use native.Mathlib.Omega.{arith}
 use Rattle.entcode.proofs.Logs.{corrections, eighths-most, eighth-above, eighth-upto}

@@ -1,3 +1,4 @@
+-- `entcode::ilog`: a number has at most 32 leading zeros, and the digits are the others. Assumes nothing.
 use borrow.Author.Needs.{needs}
 use native.Mathlib.Omega.{arith}
 use lib.Count.{leading-le}

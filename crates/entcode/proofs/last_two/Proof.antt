@@ -1,3 +1,4 @@
+-- `entcode::last_two`: by the two tests. Assumes nothing.
 use borrow.Author.Needs.{needs}
 use Rattle.entcode.proofs.last_two.Statement.{statement}
 use Rattle.entcode.proofs.last_two.Tie as tie

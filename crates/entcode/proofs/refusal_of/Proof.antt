@@ -1,3 +1,4 @@
+-- `entcode::refusal_of`: each return is one case of the definition. Assumes nothing.
 use borrow.Author.Needs.{needs}
 use borrow.Author.Tests.{eq-eqb, ne-eqb}
 use Rattle.entcode.specs.Refusal.{refusal}

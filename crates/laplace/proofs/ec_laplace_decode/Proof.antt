@@ -1,4 +1,4 @@
--- `laplace::ec_laplace_decode` meets its contract. Assumes nothing.
+-- `laplace::ec_laplace_decode`: the gate's number is the contract's; behind 0 the worker's read is what is answered. Assumes nothing.
 use mathlib.Core.Path.{_≡_}
 use denote.Ref.{now}
 use borrow.Author.Needs.{needs}

@@ -1,4 +1,4 @@
--- `laplace::ec_laplace_encode` meets its contract. Assumes nothing.
+-- `laplace::ec_laplace_encode`: the gate's number is the contract's; behind 0 the worker's write is what is answered. Assumes nothing.
 use mathlib.Core.Path.{_≡_}
 use denote.Ref.{now}
 use mir.Facts.{toZ-ofZ}
@@ -12,7 +12,8 @@ use Rattle.laplace.proofs.ec_laplace_encode.Statement.{statement}
 use Rattle.laplace.proofs.ec_laplace_encode.Tie as tie
 
 -- the gate's number, in the contract's terms
-gated : (c : tie.After-refusal) → let a = c .before .before .before .before .args in c .refusal .result ≡ refusalW (lap (a .fs) (a .decay)) (codeOf (a .value)) (wr (a .w) (now (a .buf)))
+gated : (c : tie.After-refusal)
+    → let a = c .before .before .before .before .args in c .refusal .result ≡ refusalW (lap (a .fs) (a .decay)) (codeOf (a .value)) (wr (a .w) (now (a .buf)))
 gated c =
     let a = c .before .before .before .before .args in
     write-number (a .fs) (a .decay) (a .value) (wr (a .w) (now (a .buf))) _ _
@@ -38,11 +39,14 @@ same-length c = search needs
 
 returns : tie.Need-returns
 returns c =
-    let a = c .before .before .before .before .before .before .before .before .before .args in
+    let at-if1 = c .before .before .before .before in
+    let here = at-if1 .before in
+    let start = here .before .before .before .before in
+    let a = start .args in
     let k = c .before .before .write in
     said-next (a .fs) (a .decay) _ (a .value) (wr (a .w) (now (a .buf))) _ (k .result) (k .last .1 .0)
-    (toZ-ofZ (c .before .before .before .before .before .before .before .before .before .fits .value))
-    (gated (c .before .before .before .before .before)) (c .before .before .before .before .if1 .taken) (k .ensures .0) (k .ensures .1)
+    (toZ-ofZ (start .fits .value))
+    (gated here) (at-if1 .if1 .taken) (k .ensures .0) (k .ensures .1)
 
 returns-2 : tie.Need-returns-2
 returns-2 c =

@@ -1,4 +1,4 @@
--- `lister::main` calls `run` as it asks to be called. Assumes nothing.
+-- `lister::main`: it calls `run` as it asks to be called. Assumes nothing.
 use Prim.Native.Nat.{ℕ}
 use mathlib.Core.Path.{sym, ap}
 use mathlib.Core.List.{[], _∷_}

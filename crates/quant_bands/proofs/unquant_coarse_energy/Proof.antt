@@ -27,7 +27,8 @@ gated c =
 
 -- number 0
 passed : (c : tie.Then1) → let a = c .before .before .before .before .before .args in
-    Open (length (now (a .s))) (a .d) (energiesSized (length (now (a .energies)))) (coarseOk (a .c) (a .lm) (a .start) (a .end) (a .intra)) (energiesOk (now (a .energies))) 0
+    Open (length (now (a .s))) (a .d) (energiesSized (length (now (a .energies)))) (coarseOk (a .c) (a .lm) (a .start) (a .end) (a .intra))
+    (energiesOk (now (a .energies))) 0
 unfolding refusalCoarse
 passed c = opened _ _ _ _ _ _ (sym (gated (c .before)) ∙ c .if1 .taken)
 
@@ -50,11 +51,19 @@ channels c = rw (toZ-ofZ (c .before .before .before .before .before .before .fit
 size-is : (c : tie.After-place-of) → c .place-of .result ≡ clip (c .before .before .before .before .before .before .before .args .lm)
 size-is c = rw (toZ-ofZ (c .before .before .before .before .before .before .before .fits .lm)) at (c .place-of .ensures)
 
-start-is : (c : tie.After-place-of2) → c .place-of2 .result ≡ clip (c .before .before .before .before .before .before .before .before .args .start)
-start-is c = rw (toZ-ofZ (c .before .before .before .before .before .before .before .before .fits .start)) at (c .place-of2 .ensures)
+start-is : (c : tie.After-place-of2) →
+    let start = c .before .before .before .before .before .before .before .before in
+    c .place-of2 .result ≡ clip (start .args .start)
+start-is c =
+    let start-2 = c .before .before .before .before .before .before .before .before in
+    rw (toZ-ofZ (start-2 .fits .start)) at (c .place-of2 .ensures)
 
-end-is : (c : tie.After-place-of3) → c .place-of3 .result ≡ clip (c .before .before .before .before .before .before .before .before .before .args .end)
-end-is c = rw (toZ-ofZ (c .before .before .before .before .before .before .before .before .before .fits .end)) at (c .place-of3 .ensures)
+end-is : (c : tie.After-place-of3) →
+    let start = c .before .before .before .before .before .before .before .before .before in
+    c .place-of3 .result ≡ clip (start .args .end)
+end-is c =
+    let start = c .before .before .before .before .before .before .before .before .before in
+    rw (toZ-ofZ (start .fits .end)) at (c .place-of3 .ensures)
 
 coarse-requires : tie.Need-coarse-requires
 coarse-requires c κs =
@@ -80,7 +89,14 @@ returns c =
     let e = r .before .before in
     let t = e .before .before .before .before in
     let p = t .before .before .before .before .before in
-    let g = rw (channels (e .before .before .before), size-is (e .before .before), start-is (e .before), end-is e, toZ-ofZ (p .fits .intra)) at (r .coarse .ensures) in
+    let g = rw (
+      channels (e .before .before .before),
+      size-is (e .before .before),
+      start-is (e .before),
+      end-is e,
+      toZ-ofZ
+          (p .fits .intra),
+    ) at (r .coarse .ensures) in
     let a = p .args in
     coarse-got (a .c) (a .lm) (a .start) (a .end) (a .intra) (now (a .s)) (a .d) (now (a .energies)) (gated (t .before)) (t .if1 .taken) g
 

@@ -51,11 +51,19 @@ channels c = rw (toZ-ofZ (c .before .before .before .before .before .before .fit
 start-is : (c : tie.After-place-of) → c .place-of .result ≡ clip (c .before .before .before .before .before .before .before .args .start)
 start-is c = rw (toZ-ofZ (c .before .before .before .before .before .before .before .fits .start)) at (c .place-of .ensures)
 
-end-is : (c : tie.After-place-of2) → c .place-of2 .result ≡ clip (c .before .before .before .before .before .before .before .before .args .end)
-end-is c = rw (toZ-ofZ (c .before .before .before .before .before .before .before .before .fits .end)) at (c .place-of2 .ensures)
+end-is : (c : tie.After-place-of2) →
+    let start = c .before .before .before .before .before .before .before .before in
+    c .place-of2 .result ≡ clip (start .args .end)
+end-is c =
+    let start = c .before .before .before .before .before .before .before .before in
+    rw (toZ-ofZ (start .fits .end)) at (c .place-of2 .ensures)
 
-left-is : (c : tie.After-clipped2) → c .clipped2 .result ≡ clip (c .before .before .before .before .before .before .before .before .before .args .left)
-left-is c = rw (toZ-ofZ (c .before .before .before .before .before .before .before .before .before .fits .left)) at (c .clipped2 .ensures .0)
+left-is : (c : tie.After-clipped2) →
+    let start = c .before .before .before .before .before .before .before .before .before in
+    c .clipped2 .result ≡ clip (start .args .left)
+left-is c =
+    let start = c .before .before .before .before .before .before .before .before .before in
+    rw (toZ-ofZ (start .fits .left)) at (c .clipped2 .ensures .0)
 
 finalise-requires : tie.Need-finalise-requires
 finalise-requires c κs =
@@ -64,7 +72,12 @@ finalise-requires c κs =
     let a = t .before .before .before .before .before .args in
     let o = passed t in
     let l = sized _ _ _ (o .sizes) in (
-      (rw (channels (e .before .before .before), start-is (e .before .before), end-is (e .before)) (bands-in (a .c) (a .start) (a .end) (o .known)), l .0, l .1, l .2),
+      (
+        rw (channels (e .before .before .before), start-is (e .before .before), end-is (e .before)) (bands-in (a .c) (a .start) (a .end) (o .known)),
+        l .0,
+        l .1,
+        l .2,
+      ),
       sound-ready 84 (a .d) (o .state) (lit≤ tt),
     )
 
@@ -78,7 +91,8 @@ returns c =
     let t = e .before .before .before .before in
     let g = rw (channels (e .before .before .before), start-is (e .before .before), end-is (e .before), left-is e) at (r .finalise .ensures) in
     let a = t .before .before .before .before .before .args in
-    finalise-got (a .c) (a .start) (a .end) (now (a .fine)) (now (a .priorities)) (a .left) (now (a .s)) (a .d) (now (a .energies)) (gated (t .before)) (t .if1 .taken) g
+    finalise-got (a .c) (a .start) (a .end) (now (a .fine)) (now (a .priorities)) (a .left) (now (a .s)) (a .d) (now (a .energies)) (gated (t .before))
+    (t .if1 .taken) g
 
 same-length-2 : tie.Need-same-length-2
 same-length-2 c = search needs
@@ -86,7 +100,8 @@ same-length-2 c = search needs
 returns-2 : tie.Need-returns-2
 returns-2 c =
     let a = c .before .before .before .before .before .args in
-    finalise-refused (a .c) (a .start) (a .end) (now (a .fine)) (now (a .priorities)) (a .left) (now (a .s)) (a .d) (now (a .energies)) (gated (c .before)) (c .if1 .left)
+    finalise-refused (a .c) (a .start) (a .end) (now (a .fine)) (now (a .priorities)) (a .left) (now (a .s)) (a .d) (now (a .energies)) (gated (c .before))
+    (c .if1 .left)
 
 pub unquant-energy-finalise-spec : {M : Type 1} → statement M
 unquant-energy-finalise-spec =

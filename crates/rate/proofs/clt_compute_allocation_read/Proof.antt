@@ -1,18 +1,13 @@
 -- `rate::clt_compute_allocation_read`: the gate, then the work. Assumes nothing.
-use mathlib.Core.Path.{_≡_, ap, sym, _∙_}
-use mathlib.Core.List.{map}
-use native.Mathlib.Omega.{arith}
+use mathlib.Core.Path.{_≡_, sym, _∙_}
 use lib.Dec.{lit≤}
 use lib.ListN.{length}
 use denote.Ref.{now}
-use mir.Facts.{toZ-ofZ}
-use Rattle.laws.specs.Signs.{clip}
 use Rattle.entdec.proofs.Accepted.{Open, opened}
 use Rattle.entdec.proofs.Chain.{sound-ready}
-use Rattle.rate.specs.Question.{entriesOk, frameOf, lists, numbers, numbersOk, refusalRead, sized}
-use Rattle.rate.specs.declared.Numbers.{Numbers}
+use Rattle.rate.specs.Question.{entriesOk, lists, numbersOk, refusalRead, sized}
 use Rattle.rate.proofs.Accepts as accepts
-use Rattle.rate.proofs.Accepts.{entries, framed, got-read, refused-read}
+use Rattle.rate.proofs.Accepts.{counts-ok, done-read, lists-ok, refused-read}
 use borrow.Author.Needs.{needs}
 use Rattle.rate.proofs.clt_compute_allocation_read.Statement.{statement}
 use Rattle.rate.proofs.clt_compute_allocation_read.Tie as tie
@@ -20,37 +15,27 @@ use Rattle.rate.proofs.clt_compute_allocation_read.Tie as tie
 refusal-read-requires : tie.Need-refusal-read-requires
 refusal-read-requires c κs = search needs
 
--- the call's numbers and lists
-abbrev asked : tie.Start → Numbers
-asked p = let a = p .args in numbers (a .c) (a .lm) (a .start) (a .end) (a .trim) (a .total)
-
 -- the gate's number, in the contract's terms
-gated : (c : tie.After-refusal-read) → let p = c .before .before in let a = p .args in
-    c .refusal-read .result ≡ refusalRead (asked p) (now (a .offsets)) (now (a .caps)) (lists (now (a .pulses)) (now (a .fine)) (now (a .priorities))) (now (a .s)) (a .d)
+gated : (c : tie.After-refusal-read) → let a = c .before .before .args in
+    c .refusal-read .result ≡ refusalRead (a .q) (now (a .offsets)) (now (a .caps)) (lists (now (a .pulses)) (now (a .fine)) (now (a .priorities)))
+    (now (a .s)) (a .d)
 unfolding refusalRead
-gated c =
-    let f = c .before .before .fits in
-    rw (toZ-ofZ (f .c), toZ-ofZ (f .lm), toZ-ofZ (f .start), toZ-ofZ (f .end), toZ-ofZ (f .trim), toZ-ofZ (f .total)) at (c .refusal-read .ensures)
+gated c = c .refusal-read .ensures
 
 -- number 0
-passed : (c : tie.Then1) → let p = c .before .before .before in let a = p .args in
-    Open (length (now (a .s))) (a .d) (sized (asked p) (now (a .offsets)) (now (a .caps)) (lists (now (a .pulses)) (now (a .fine)) (now (a .priorities))))
-    (numbersOk (asked p)) (entriesOk (now (a .offsets)) (now (a .caps))) 0
+passed : (c : tie.Then1) → let a = c .before .before .before .args in
+    Open (length (now (a .s))) (a .d) (sized (a .q) (now (a .offsets)) (now (a .caps)) (lists (now (a .pulses)) (now (a .fine)) (now (a .priorities))))
+    (numbersOk (a .q)) (entriesOk (now (a .offsets)) (now (a .caps))) 0
 unfolding refusalRead
 passed c = opened _ _ _ _ _ _ (sym (gated (c .before)) ∙ c .if1 .taken)
 
+-- and each list has 21 entries
 lengths : (c : tie.Then1) → let a = c .before .before .before .args in
     accepts.Sized (length (now (a .offsets))) (length (now (a .caps))) (length (now (a .pulses))) (length (now (a .fine))) (length (now (a .priorities)))
 lengths c = accepts.sized _ _ _ _ _ (passed c .sizes)
 
--- the numbers as counts
-frame-is : (c : tie.After-frame-of) → c .frame-of .result ≡ frameOf (asked (c .before .before .before .before))
-frame-is c =
-    let f = c .before .before .before .before .fits in
-    rw (toZ-ofZ (f .c), toZ-ofZ (f .lm), toZ-ofZ (f .start), toZ-ofZ (f .end), toZ-ofZ (f .trim), toZ-ofZ (f .total)) at (c .frame-of .ensures)
-
-frame-of-requires : tie.Need-frame-of-requires
-frame-of-requires c κs = search needs
+alloc-counts-requires : tie.Need-alloc-counts-requires
+alloc-counts-requires c κs = search needs
 
 counts-of-requires : tie.Need-counts-of-requires
 counts-of-requires c κs = lengths (c .before) .offsets-is
@@ -67,8 +52,8 @@ read-requires c κs =
     let o = passed t in
     let l = lengths t in (
       (
-        rw (frame-is f) (framed (asked p) (o .known)),
-        rw (m .before .counts-of .ensures, m .counts-of2 .ensures) (entries (now (p .args .offsets)) (now (p .args .caps)) (o .entries)),
+        rw (f .alloc-counts .ensures) (counts-ok (p .args .q) (o .known)),
+        rw (m .before .counts-of .ensures, m .counts-of2 .ensures) (lists-ok (now (p .args .offsets)) (now (p .args .caps)) (o .entries)),
         sound-ready 22 (p .args .d) (o .state) (lit≤ tt),
       ),
       (l .pulses-is, l .fine-is, l .priorities-is),
@@ -89,8 +74,8 @@ returns c =
     let m = r .before .before .before .before .before .before in
     let f = m .before .before in
     let t = f .before in
-    let e = rw (frame-is f, m .before .counts-of .ensures, m .counts-of2 .ensures) at (r .read .ensures) in
-    got-read _ _ _ _ (sym (gated (t .before)) ∙ t .if1 .taken) (e .0) (e .1)
+    let e = rw (f .alloc-counts .ensures, m .before .counts-of .ensures, m .counts-of2 .ensures) at (r .read .ensures) in
+    done-read _ _ _ _ (sym (gated (t .before)) ∙ t .if1 .taken) (e .0) (e .1)
 
 returns-2 : tie.Need-returns-2
 returns-2 c =
@@ -102,7 +87,7 @@ clt-compute-allocation-read-spec =
     tie.close
     (tie.spec
     refusal-read-requires
-    frame-of-requires
+    alloc-counts-requires
     counts-of-requires
     counts-of-requires-2
     read-requires

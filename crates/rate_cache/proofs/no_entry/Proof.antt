@@ -10,7 +10,7 @@ use borrow.Author.Needs.{needs}
 use borrow.Author.Tests.{eq-eqb, ne-eqb}
 use Rattle.laws.specs.Signs.{inRange}
 use Rattle.modes.specs.CacheBits.{rowLength}
-use Rattle.modes.specs.CacheIndex.{place, rowStart}
+use Rattle.modes.specs.CacheIndex.{indexEntry, rowStart}
 use Rattle.rate_cache.specs.Lookups.{noEntry}
 use Rattle.rate_cache.proofs.Packings.{mark-length, none-mark, some-mark}
 use Rattle.rate_cache.proofs.no_entry.Statement.{statement}
@@ -24,7 +24,7 @@ unfolding noEntry
 returns c = let a = c .before .before .args in rw (eq-eqb _ _ (none-mark (a .lm) (a .band) (c .before .mark-of .ensures .0) (c .if1 .taken)))
 
 -- there is a row
-some : (c : tie.Else1) → let a = c .before .before .args in place (a .lm) (a .band) ≡ 0 → ⊥
+some : (c : tie.Else1) → let a = c .before .before .args in indexEntry (a .lm) (a .band) ≡ 0 → ⊥
 some c = let a = c .before .before .args in some-mark (a .lm) (a .band) (c .before .mark-of .ensures .0) (c .if1 .left)
 
 cast-most : tie.Need-cast-most

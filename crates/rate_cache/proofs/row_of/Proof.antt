@@ -5,7 +5,7 @@ use native.Mathlib.Omega.{arith}
 use mir.Facts.{toZ-ofZ}
 use borrow.Author.Needs.{needs}
 use Rattle.laws.specs.Signs.{clip}
-use Rattle.modes.specs.CacheIndex.{place}
+use Rattle.modes.specs.CacheIndex.{indexEntry}
 use Rattle.rate_cache.specs.Lookups.{levelOf}
 use Rattle.rate_cache.proofs.Packings.{mark-place}
 use Rattle.rate_cache.proofs.row_of.Statement.{statement}
@@ -28,7 +28,8 @@ mark-of-requires c κs =
     (omega (arith, s .pre .level-lt), omega (arith, s .pre .band-lt))
 
 -- the place in the index
-at : (c : tie.After-mark-of) → c .mark-of .result % 512 ≡ place (levelOf (c .before .before .before .args .lm)) (clip (c .before .before .before .args .band))
+at : (c : tie.After-mark-of)
+    → c .mark-of .result % 512 ≡ indexEntry (levelOf (c .before .before .before .args .lm)) (clip (c .before .before .before .args .band))
 at c =
     let s = c .before .before .before in
     let l = rw (toZ-ofZ (s .fits .lm)) at (c .before .before .level .ensures) in

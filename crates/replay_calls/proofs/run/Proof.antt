@@ -1,4 +1,4 @@
--- `replay_calls::run` is safe and ends. The measure is the lines that may still come. Assumes nothing.
+-- `replay_calls::run`: every access is within its bounds; the measure is the lines that may still come. Assumes nothing.
 use borrow.Author.Needs.{needs}
 use mathlib.Core.Path.{_≡_}
 use lib.ListN.{length}

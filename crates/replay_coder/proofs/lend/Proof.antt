@@ -1,4 +1,4 @@
--- `replay_coder::lend` is safe and ends. Assumes nothing.
+-- `replay_coder::lend`: the bytes that are lent are within those that there are. Assumes nothing.
 use borrow.Author.Needs.{needs}
 use lib.Seq.{length-take-le}
 use Rattle.replay_coder.proofs.lend.Statement.{statement}
@@ -19,8 +19,8 @@ slice-aggregate-act c = search (needs, length-take-le)
 act-requires : tie.Need-act-requires
 act-requires c κs = search needs
 
-turned-requires : tie.Need-turned-requires
-turned-requires c κs = search needs
+with-coder-requires : tie.Need-with-coder-requires
+with-coder-requires c κs = search needs
 
 same-length : tie.Need-same-length
 same-length c = search needs
@@ -40,7 +40,7 @@ lend-spec =
     slice-relend-prefix-act
     slice-aggregate-act
     act-requires
-    turned-requires
+    with-coder-requires
     same-length
     same-length-2
     returns-2)

@@ -1,4 +1,4 @@
--- `replay_coder::run` is safe and ends. The measure is the lines that may still come. Assumes nothing.
+-- `replay_coder::run`: every access is within its bounds; the measure is the lines that may still come. Assumes nothing.
 use borrow.Author.Needs.{needs}
 use mathlib.Core.Path.{_≡_}
 use lib.ListN.{length}
@@ -6,11 +6,12 @@ use Rattle.replay_coder.proofs.run.Statement.{statement}
 use Rattle.replay_coder.proofs.run.Tie as tie
 
 abbrev Inv-loop : tie.InvT-loop
-Inv-loop block₀ line₀ bytes₀ table₀ places₀ now₀ t₀ lines₀ block line bytes table places now t lines =
-    (length block ≡ length block₀) × (length line ≡ length line₀) × (length bytes ≡ length bytes₀) × (length table ≡ length table₀) × (length places ≡ length places₀)
+Inv-loop block₀ line₀ bytes₀ table₀ places₀ state₀ t₀ lines₀ block line bytes table places state t lines =
+    (length block ≡ length block₀) × (length line ≡ length line₀) × (length bytes ≡ length bytes₀) × (length table ≡ length table₀) ×
+    (length places ≡ length places₀)
 
 abbrev μ-loop : tie.MeasureT-loop
-μ-loop block₀ line₀ bytes₀ table₀ places₀ now₀ t₀ lines₀ block line bytes table places now t lines = lines
+μ-loop block₀ line₀ bytes₀ table₀ places₀ state₀ t₀ lines₀ block line bytes table places state t lines = lines
 
 fresh-requires : tie.Need-fresh-requires Inv-loop μ-loop
 fresh-requires c κs = search needs

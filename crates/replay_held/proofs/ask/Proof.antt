@@ -1,4 +1,4 @@
--- `replay_held::ask` is safe and ends. Assumes nothing.
+-- `replay_held::ask`: every access is within its bounds. Assumes nothing.
 use borrow.Author.Needs.{needs}
 use lib.Seq.{length-take-le}
 use Rattle.replay_held.proofs.ask.Statement.{statement}

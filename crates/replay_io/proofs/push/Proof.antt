@@ -1,4 +1,4 @@
--- `replay_io::push` meets its contract: with room, and without. Assumes nothing.
+-- `replay_io::push`: with room, and without. Assumes nothing.
 use mathlib.Core.List.{[], _∷_}
 use Rattle.replay_io.proofs.Texts.{push-room, push-full}
 use borrow.Author.Needs.{needs}

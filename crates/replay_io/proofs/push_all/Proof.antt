@@ -1,17 +1,17 @@
--- `replay_io::push_all` meets its contract. The invariant: the text has the first i bytes of s after it, as far as there is room.
+-- `replay_io::push_all`: the invariant: the text has the first i bytes of s after it, as far as there is room.
 -- Assumes nothing.
 use borrow.Author.Needs.{needs}
 use Prim.Native.Nat.{_-_, _≤_}
 use mathlib.Core.Path.{_≡_, refl, _∙_}
 use native.Mathlib.Omega.{arith}
 use lib.ListN.{length, take}
-use Rattle.replay_io.specs.Text.{joined}
+use Rattle.replay_io.specs.Text.{appended}
 use Rattle.replay_io.proofs.Texts.{none, one-more, all-of}
 use Rattle.replay_io.proofs.push_all.Statement.{statement}
 use Rattle.replay_io.proofs.push_all.Tie as tie
 
 abbrev Inv-loop : tie.InvT-loop
-Inv-loop out₀ n s k₀ i₀ out k i = (i ≤ length s) × (length out ≡ length out₀) × (take k out ≡ joined (length out₀) (take n out₀) (take i s))
+Inv-loop out₀ n s k₀ i₀ out k i = (i ≤ length s) × (length out ≡ length out₀) × (take k out ≡ appended (length out₀) (take n out₀) (take i s))
 
 abbrev μ-loop : tie.MeasureT-loop
 μ-loop out₀ n s k₀ i₀ out k i = length s - i
@@ -35,10 +35,13 @@ loop-less c = search needs
 
 loop-again : tie.Need-loop-again Inv-loop μ-loop
 loop-again c =
-    let a = c .before .before .before .before .before .before .before .before .before .args in
-    let l = c .before .before .before .before .before .before .loop in
+    let at-loop-test = c .before .before .before .before .before in
+    let at-loop = at-loop-test .before in
+    let start = at-loop .before .before .before in
+    let a = start .args in
+    let l = at-loop .loop in
     let p = c .before .before .push in
-    let h = c .before .before .before .before .before .loop-test .taken in (
+    let h = at-loop-test .loop-test .taken in (
       omega arith,
       p .kept .0 ∙ l .inv .1,
       one-more (a .out .now) (l .out) (a .s .now) (a .n) (l .k) (l .i) h (l .inv .1) (l .inv .2) (p .ensures),

@@ -1,17 +1,17 @@
--- `replay_io::push_hex` meets its contract. The invariant: the text has the first i bytes in hex after it, as far as there is room.
+-- `replay_io::push_hex`: the invariant: the text has the first i bytes in hex after it, as far as there is room.
 -- Assumes nothing.
 use borrow.Author.Needs.{needs}
 use Prim.Native.Nat.{_-_, _≤_}
 use mathlib.Core.Path.{_≡_, refl, _∙_}
 use native.Mathlib.Omega.{arith}
 use lib.ListN.{length, take}
-use Rattle.replay_io.specs.Text.{joined, hexOf}
+use Rattle.replay_io.specs.Text.{appended, hexBytesOf}
 use Rattle.replay_io.proofs.Texts.{hex-none, hex-more, hex-all}
 use Rattle.replay_io.proofs.push_hex.Statement.{statement}
 use Rattle.replay_io.proofs.push_hex.Tie as tie
 
 abbrev Inv-loop : tie.InvT-loop
-Inv-loop out₀ n s k₀ i₀ out k i = (i ≤ length s) × (length out ≡ length out₀) × (take k out ≡ joined (length out₀) (take n out₀) (hexOf (take i s)))
+Inv-loop out₀ n s k₀ i₀ out k i = (i ≤ length s) × (length out ≡ length out₀) × (take k out ≡ appended (length out₀) (take n out₀) (hexBytesOf (take i s)))
 
 abbrev μ-loop : tie.MeasureT-loop
 μ-loop out₀ n s k₀ i₀ out k i = length s - i
@@ -23,6 +23,12 @@ loop-holds c =
 
 shared-slice-read-b : tie.Need-shared-slice-read-b Inv-loop μ-loop
 shared-slice-read-b c = search needs
+
+cast-high : tie.Need-cast-high Inv-loop μ-loop
+cast-high c = search needs
+
+cast-low : tie.Need-cast-low Inv-loop μ-loop
+cast-low c = search needs
 
 glyph-requires : tie.Need-glyph-requires Inv-loop μ-loop
 glyph-requires c κs = search needs
@@ -44,16 +50,21 @@ loop-less c = search needs
 
 loop-again : tie.Need-loop-again Inv-loop μ-loop
 loop-again c =
-    let a = c .before .before .before .before .before .before .before .before .before .before .before .before .before .before .before .args in
-    let l = c .before .before .before .before .before .before .before .before .before .before .before .before .loop in
-    let h = c .before .before .before .before .before .before .before .before .before .before .before .loop-test .taken in
-    let p = c .before .before .before .before .before .before .before .push in
+    let at-push = c .before .before .before .before .before .before .before in
+    let at-glyph = at-push .before in
+    let at-loop-test = at-glyph .before .before .before in
+    let at-loop = at-loop-test .before in
+    let start = at-loop .before .before .before in
+    let a = start .args in
+    let l = at-loop .loop in
+    let h = at-loop-test .loop-test .taken in
+    let p = at-push .push in
     let q = c .before .before .push2 in
     let e = p .kept .0 ∙ l .inv .1 in (
       omega arith,
       q .kept .0 ∙ e,
       hex-more (length (a .out .now)) (take (a .n) (a .out .now)) (a .s .now) (l .i) h (l .inv .1) e (l .inv .2)
-          (c .before .before .before .before .before .before .before .before .glyph .ensures)
+          (at-glyph .glyph .ensures)
           (c .before .before .before .glyph2 .ensures)
           (p .ensures)
           (q .ensures),
@@ -76,6 +87,8 @@ push-hex-spec =
     μ-loop
     loop-holds
     shared-slice-read-b
+    cast-high
+    cast-low
     glyph-requires
     push-requires
     glyph-requires-2

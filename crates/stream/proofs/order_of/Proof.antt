@@ -1,4 +1,4 @@
--- `stream::order_of` meets its contract. Assumes nothing.
+-- `stream::order_of`: each return has the answers of the tests before it. Assumes nothing.
 use borrow.Author.Tests.{lt-ltb, le-ltb}
 use Rattle.stream.proofs.order_of.Statement.{statement}
 use Rattle.stream.proofs.order_of.Tie as tie

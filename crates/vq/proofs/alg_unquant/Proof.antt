@@ -7,8 +7,8 @@ use mir.Facts.{toZ-ofZ}
 use Rattle.laws.specs.Signs.{clip}
 use Rattle.entdec.proofs.Accepted.{Open, opened}
 use Rattle.entdec.proofs.Chain.{sound-ready}
-use Rattle.vq.specs.Answer.{Asked, asked, lengthOk, numbersOk, gainOk, ownShape, refusalShape}
-use Rattle.vq.proofs.Refusing.{domain, length-is, own-fits, answer-got, answer-refused}
+use Rattle.vq.specs.Answer.{ShapeRequest, shapeRequest, lengthOk, numbersOk, gainOk, specialShape, refusalShape}
+use Rattle.vq.proofs.Refusing.{domain, length-is, special-fits, answer-got, answer-refused}
 use borrow.Author.Needs.{needs}
 use Rattle.vq.proofs.alg_unquant.Statement.{statement}
 use Rattle.vq.proofs.alg_unquant.Tie as tie
@@ -17,8 +17,8 @@ refusal-shape-requires : tie.Need-refusal-shape-requires
 refusal-shape-requires c κs = search needs
 
 -- what the call is asked
-abbrev question : tie.Start → Asked
-question p = let a = p .args in asked (a .n) (a .k) (a .spread) (a .b) (a .gain)
+abbrev question : tie.Start → ShapeRequest
+question p = let a = p .args in shapeRequest (a .n) (a .k) (a .spread) (a .b) (a .gain)
 
 -- the gate's number, in the contract's terms
 gated : (c : tie.After-refusal-shape) → let p = c .before .before .before in let a = p .args in
@@ -31,7 +31,7 @@ gated c =
 -- number 0
 passed : (c : tie.Then1) → let a = c .before .before .before .before .args in
     Open (length (now (a .s))) (a .d) (lengthOk (a .n) (length (now (a .shape)))) (numbersOk (a .n) (a .k) (a .spread) (a .b)) (gainOk (a .gain))
-    (ownShape (clip (a .n)) (clip (a .k)) (clip (a .spread)))
+    (specialShape (clip (a .n)) (clip (a .k)) (clip (a .spread)))
 unfolding refusalShape
 passed c = opened _ _ _ _ _ _ (sym (gated (c .before)) ∙ c .if1 .taken)
 
@@ -81,7 +81,7 @@ unquant-requires c κs =
         sym (length-is (a .n) (length (now (a .shape))) (o .sizes)),
         k .low,
         k .high,
-        own-fits (clip (a .n)) (clip (a .k)) (clip (a .spread)) (o .none),
+        special-fits (clip (a .n)) (clip (a .k)) (clip (a .spread)) (o .none),
         b .low,
         b .high,
       ),

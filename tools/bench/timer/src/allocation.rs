@@ -90,7 +90,7 @@ fn kept(list: Vec<Question>, writes: bool) -> Vec<Question> {
 }
 
 pub fn jobs(recorded: Vec<Question>, any: Vec<Question>) -> Vec<Job> {
-    let (read, write) = ("celt_compute_allocation_read", "celt_compute_allocation_write");
+    let (read, write) = ("gurthapen_compute_allocation_read", "gurthapen_compute_allocation_write");
     vec![
         job("allocation, read", "recorded", read, kept(recorded.clone(), false)),
         job("allocation, write", "recorded", write, kept(recorded, true)),

@@ -42,7 +42,7 @@ fn coarse(inputs: &'static str, list: &[Energies]) -> Job {
     let second = unsafe { libopus::opus_custom_mode_create(48000, 960, &mut 0) };
     let decode = black_box(quant_bands::unquant_coarse_energy as CoarseCall);
     let parts = [
-        side("celt_unquant_coarse_energy", list, |e, energies| {
+        side("gurthapen_unquant_coarse_energy", list, |e, energies| {
             let mut state = e.state;
             ours::coarse(&mut state, e, energies);
             state
@@ -63,7 +63,7 @@ fn coarse(inputs: &'static str, list: &[Energies]) -> Job {
 
 /// The same as the next frame of a stream record, which the others do not have.
 fn record(inputs: &'static str, list: &[Energies]) -> Job {
-    let ours_ = side("celt_record_frame", list, |e, energies| {
+    let ours_ = side("gurthapen_record_frame", list, |e, energies| {
         let mut state = e.state;
         let mut next = 7;
         ours::record_frame(&mut state, e, energies, &mut next);
@@ -78,7 +78,7 @@ fn last_bits(inputs: &'static str, list: &[Energies]) -> Job {
     let second = unsafe { libopus::opus_custom_mode_create(48000, 960, &mut 0) };
     let finalise = black_box(quant_bands::unquant_energy_finalise as LastCall);
     let parts = [
-        side("celt_unquant_energy_finalise", list, |e, energies| {
+        side("gurthapen_unquant_energy_finalise", list, |e, energies| {
             let mut state = e.state;
             ours::finalise(&mut state, e, energies);
             state
@@ -99,7 +99,7 @@ fn last_bits(inputs: &'static str, list: &[Energies]) -> Job {
     Job { name: "last bits", inputs, frame: true, calls: list.len(), parts }
 }
 
-/// A call over a new reader of 10 to 160 bytes by chance. One in eight has the bands from 17 on, as frames with a low band elsewhere have.
+/// A call over a new reader of 10 to 160 random bytes. One in eight has the bands from 17 on, as frames with a low band elsewhere have.
 fn any(r: &mut Random) -> Energies {
     let length = r.within(10, 160);
     let bytes: Vec<u8> = (0..length).map(|_| r.below(256) as u8).collect();

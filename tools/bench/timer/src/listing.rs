@@ -51,7 +51,7 @@ pub fn jobs(lines: Vec<(u32, String)>) -> Vec<Job> {
     }
     let (calls, ours_, crate_) = (list.len(), list.clone(), list);
     let parts = [
-        part("celt_list", move |whole| {
+        part("gurthapen_list", move |whole| {
             let mut sum = 0;
             for (number, line) in &ours_ {
                 let length = ours::list(line.as_bytes(), *number, &mut room);

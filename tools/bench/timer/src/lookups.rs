@@ -43,17 +43,17 @@ pub fn jobs(r: &mut Random) -> Vec<Job> {
     let pulses2bits = black_box(rate::pulses2bits as unsafe fn(*const modes::OpusCustomMode, i32, i32, i32) -> i32);
     vec![
         job(
-            "get_pulses", indices, ["celt_get_pulses", "oracle::celt::rate::get_pulses"],
+            "get_pulses", indices, ["gurthapen_get_pulses", "oracle::celt::rate::get_pulses"],
             |&i| ours::get_pulses(i) as i32,
             move |&i| unsafe { get_pulses(i) },
         ),
         job(
-            "bits2pulses", costs, ["celt_bits2pulses", "oracle::celt::rate::bits2pulses"],
+            "bits2pulses", costs, ["gurthapen_bits2pulses", "oracle::celt::rate::bits2pulses"],
             |&((band, lm), bits)| ours::bits2pulses(band, lm, bits) as i32,
             move |&((band, lm), bits)| unsafe { bits2pulses(mode, band, lm, bits) },
         ),
         job(
-            "pulses2bits", counts, ["celt_pulses2bits", "oracle::celt::rate::pulses2bits"],
+            "pulses2bits", counts, ["gurthapen_pulses2bits", "oracle::celt::rate::pulses2bits"],
             |&((band, lm), pulses)| ours::pulses2bits(band, lm, pulses) as i32,
             move |&((band, lm), pulses)| unsafe { pulses2bits(mode, band, lm, pulses) },
         ),

@@ -59,7 +59,7 @@ fn jobs_of(inputs: &'static str, packets: &[Packet]) -> Vec<Job> {
     let mut y = [0; 176];
     let mut z = [0; 176];
     let reads = [
-        part("celt_decode_pulses", move |whole| {
+        part("gurthapen_decode_pulses", move |whole| {
             let mut sum = 0;
             for p in &ours_ {
                 for w in &p.words {
@@ -90,7 +90,7 @@ fn jobs_of(inputs: &'static str, packets: &[Packet]) -> Vec<Job> {
     // Each packet's words one after the other into a new packet of its length.
     let (mut ours_, mut libopus_) = (packets.to_vec(), packets.to_vec());
     let writes = [
-        part("celt_encode_pulses", move |whole| {
+        part("gurthapen_encode_pulses", move |whole| {
             let mut sum = 0;
             for p in &mut ours_ {
                 let mut state = p.empty;

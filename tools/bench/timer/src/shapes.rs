@@ -39,7 +39,7 @@ pub fn jobs(recorded: Vec<Shape>) -> Vec<Job> {
     let unquant = black_box(vq::alg_unquant as unsafe fn(*mut f32, i32, i32, i32, i32, &mut ec_ctx, f32) -> u32);
     // Of the oracles: there are n places, the tables have the count, and libopus' coder does not outlive the bytes.
     let parts = [
-        side("celt_alg_unquant", &list, |s, places| {
+        side("gurthapen_alg_unquant", &list, |s, places| {
             let mut state = s.state;
             let mask = ours::shape(&mut state, s, places).unwrap_or_else(|no| panic!("a shape is refused as {no}"));
             (mask, state)

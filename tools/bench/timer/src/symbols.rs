@@ -1,4 +1,4 @@
-//! Symbols of the range coder and Laplace values. The packets are bytes by chance or recorded; what the crate reads from them, symbol after symbol,
+//! Symbols of the range coder and Laplace values. The packets are random bytes or recorded; what the crate reads from them, symbol after symbol,
 //! is read again by each side, and written by each side into a new packet of that length. So values have the shares that their models give them.
 use crate::job::{crate_coder, crate_state, libopus_coder, libopus_state, mix, mix_bytes, mix_state, part, Job};
 use crate::ours::{self, State};
@@ -30,7 +30,7 @@ fn read_all<K>(bytes: Vec<u8>, state: State, most: usize, mut kind: impl FnMut(u
     Packet { bytes, state, symbols }
 }
 
-/// Four packets of 1275 bytes by chance, and at most 400 symbols of each.
+/// Four packets of 1275 random bytes, and at most 400 symbols of each.
 fn generated<K>(r: &mut Random, kind: impl Fn(&mut Random) -> K, read: impl Fn(&mut ec_ctx, &K) -> i32) -> Vec<Packet<K>> {
     let mut list = vec![];
     for _ in 0..4 {
@@ -161,13 +161,13 @@ fn bits(r: &mut Random) -> Vec<Job> {
     let write = black_box(entenc::ec_enc_bit_logp as fn(&mut ec_ctx, i32, u32));
     vec![
         reading(
-            "bit, read", "generated", &packets, ["celt_dec_bit_logp", "oracle::celt::entdec::ec_dec_bit_logp", "ec_dec_bit_logp"],
+            "bit, read", "generated", &packets, ["gurthapen_dec_bit_logp", "oracle::celt::entdec::ec_dec_bit_logp", "ec_dec_bit_logp"],
             |state, s, &logp| ours::dec_bit_logp(state, s, logp) as i32,
             move |c, &logp| read(c, logp),
             |c, &logp| unsafe { libopus::ec_dec_bit_logp(c, logp) },
         ),
         writing(
-            "bit, write", "generated", &packets, ["celt_enc_bit_logp", "oracle::celt::entenc::ec_enc_bit_logp", "ec_enc_bit_logp"],
+            "bit, write", "generated", &packets, ["gurthapen_enc_bit_logp", "oracle::celt::entenc::ec_enc_bit_logp", "ec_enc_bit_logp"],
             |state, buf, &logp, v| ours::enc_bit_logp(state, buf, v as u32, logp),
             move |c, &logp, v| write(c, v, logp),
             |c, &logp, v| unsafe { libopus::ec_enc_bit_logp(c, v, logp) },
@@ -190,13 +190,13 @@ fn tables(r: &mut Random) -> Vec<Job> {
     let write = black_box(entenc::ec_enc_icdf as fn(&mut ec_ctx, i32, &[u8], u32));
     vec![
         reading(
-            "table symbol, read", "generated", &packets, ["celt_dec_icdf", "oracle::celt::entdec::ec_dec_icdf", "ec_dec_icdf"],
+            "table symbol, read", "generated", &packets, ["gurthapen_dec_icdf", "oracle::celt::entdec::ec_dec_icdf", "ec_dec_icdf"],
             |state, s, (t, ftb)| ours::dec_icdf(state, s, t, *ftb) as i32,
             move |c, (t, ftb)| read(c, t, *ftb),
             |c, (t, ftb)| unsafe { libopus::ec_dec_icdf(c, t.as_ptr(), *ftb) },
         ),
         writing(
-            "table symbol, write", "generated", &packets, ["celt_enc_icdf", "oracle::celt::entenc::ec_enc_icdf", "ec_enc_icdf"],
+            "table symbol, write", "generated", &packets, ["gurthapen_enc_icdf", "oracle::celt::entenc::ec_enc_icdf", "ec_enc_icdf"],
             |state, buf, (t, ftb), v| ours::enc_icdf(state, buf, v as u32, t, *ftb),
             move |c, (t, ftb), v| write(c, v, t, *ftb),
             |c, (t, ftb), v| unsafe { libopus::ec_enc_icdf(c, v, t.as_ptr(), *ftb) },
@@ -215,13 +215,13 @@ fn uniform(r: &mut Random) -> Vec<Job> {
     let write = black_box(entenc::ec_enc_uint as fn(&mut ec_ctx, u32, u32));
     vec![
         reading(
-            "uniform integer, read", "generated", &packets, ["celt_dec_uint", "oracle::celt::entdec::ec_dec_uint", "ec_dec_uint"],
+            "uniform integer, read", "generated", &packets, ["gurthapen_dec_uint", "oracle::celt::entdec::ec_dec_uint", "ec_dec_uint"],
             |state, s, &ft| ours::dec_uint(state, s, ft) as i32,
             move |c, &ft| read(c, ft) as i32,
             |c, &ft| unsafe { libopus::ec_dec_uint(c, ft) as i32 },
         ),
         writing(
-            "uniform integer, write", "generated", &packets, ["celt_enc_uint", "oracle::celt::entenc::ec_enc_uint", "ec_enc_uint"],
+            "uniform integer, write", "generated", &packets, ["gurthapen_enc_uint", "oracle::celt::entenc::ec_enc_uint", "ec_enc_uint"],
             |state, buf, &ft, v| ours::enc_uint(state, buf, v as u32, ft),
             move |c, &ft, v| write(c, v as u32, ft),
             |c, &ft, v| unsafe { libopus::ec_enc_uint(c, v as u32, ft) },
@@ -236,13 +236,13 @@ fn raw(r: &mut Random) -> Vec<Job> {
     let write = black_box(entenc::ec_enc_bits as fn(&mut ec_ctx, u32, u32));
     vec![
         reading(
-            "raw bits, read", "generated", &packets, ["celt_dec_bits", "oracle::celt::entdec::ec_dec_bits", "ec_dec_bits"],
+            "raw bits, read", "generated", &packets, ["gurthapen_dec_bits", "oracle::celt::entdec::ec_dec_bits", "ec_dec_bits"],
             |state, s, &n| ours::dec_bits(state, s, n) as i32,
             move |c, &n| read(c, n) as i32,
             |c, &n| unsafe { libopus::ec_dec_bits(c, n) as i32 },
         ),
         writing(
-            "raw bits, write", "generated", &packets, ["celt_enc_bits", "oracle::celt::entenc::ec_enc_bits", "ec_enc_bits"],
+            "raw bits, write", "generated", &packets, ["gurthapen_enc_bits", "oracle::celt::entenc::ec_enc_bits", "ec_enc_bits"],
             |state, buf, &n, v| ours::enc_bits(state, buf, v as u32, n),
             move |c, &n, v| write(c, v as u32, n),
             |c, &n, v| unsafe { libopus::ec_enc_bits(c, v as u32, n) },
@@ -277,14 +277,14 @@ fn laplace_jobs(inputs: &'static str, packets: &[Packet<Pair>]) -> Vec<Job> {
     vec![
         reading(
             "Laplace value, read", inputs, packets,
-            ["celt_laplace_decode", "oracle::celt::laplace::ec_laplace_decode", "ec_laplace_decode"],
+            ["gurthapen_laplace_decode", "oracle::celt::laplace::ec_laplace_decode", "ec_laplace_decode"],
             |state, s, &(fs, decay)| ours::laplace_decode(state, s, fs, decay),
             move |c, &(fs, decay)| unsafe { read(c, fs, decay as i32) },
             |c, &(fs, decay)| unsafe { libopus::ec_laplace_decode(c, fs, decay as i32) },
         ),
         writing(
             "Laplace value, write", inputs, packets,
-            ["celt_laplace_encode", "oracle::celt::laplace::ec_laplace_encode", "ec_laplace_encode"],
+            ["gurthapen_laplace_encode", "oracle::celt::laplace::ec_laplace_encode", "ec_laplace_encode"],
             |state, buf, &(fs, decay), v| {
                 ours::laplace_encode(state, buf, v, fs, decay);
             },

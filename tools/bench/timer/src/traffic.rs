@@ -1,5 +1,5 @@
-//! Recorded calls of libopus, from tools/compare/driver/src, and requests by chance, from the programs that replay them. A line of a recorded call
-//! has fields parted by tabs; the driver's modules say which.
+//! Recorded calls of libopus, from tools/compare/driver/src, and random requests, from the programs that replay them. A line of a recorded call
+//! has fields separated by tabs; the driver's modules say which.
 use crate::ours::{Numbers, State};
 
 fn numbers<T: std::str::FromStr>(text: &str, part: char) -> Vec<T> {
@@ -57,7 +57,7 @@ pub fn allocations(root: &str) -> Vec<Question> {
     file(root, "tools/compare/driver/src/alloc_traffic.txt").lines().map(line).collect()
 }
 
-/// The allocations of crates/replay_calls/stdin after those that repeat the recorded calls: allocations by chance. tools/compare's alloc.rs has their
+/// The allocations of crates/replay_calls/stdin after those that repeat the recorded calls: random allocations. tools/compare's alloc.rs has their
 /// form: the coder's state, ten numbers, six lengths, then offsets, caps and bytes. Those with a list of another length are passed over.
 pub fn any_allocations(root: &str, recorded: usize) -> Vec<Question> {
     let line = |line: &str| {

@@ -1,8 +1,8 @@
-//! Requests of whole allocations: recorded traffic, allocations by chance over the whole domain, read from any bytes or written and read back, totals
-//! at which one eighth bit more changes how many bands are coded, coder states by chance within their rule, and refusals.
+//! Requests of whole allocations: recorded traffic, random allocations over the whole domain, read from any bytes or written and read back, totals
+//! at which one eighth bit more changes how many bands are coded, random coder states within their rule, and refusals.
 //!
 //! alloc_traffic.txt has calls that libopus 1.3.1 made while it encoded and decoded synthetic speech and music, CELT only, 2.5 to 20 ms, mono and
-//! stereo, 12 to 400 kbit/s. A line has, parted by tabs, A, encode, C, LM, start, end, trim, total, intensity, dual stereo, previous band count, signal
+//! stereo, 12 to 400 kbit/s. A line has, separated by tabs, A, encode, C, LM, start, end, trim, total, intensity, dual stereo, previous band count, signal
 //! bandwidth, 21 offsets, 21 caps, the state before (storage, end_offs, end_window, nend_bits, nbits_total, offs, rng, val, ext, rem, error), the bytes
 //! in hex; then what it gave: coded bands, balance, intensity, dual stereo, pulses, fine bits and priorities from start to end-1, the state
 //! after, and of a write the bytes after. Entries of the lists from end on are what lay in memory; those outside the domain are asked as 0.
@@ -79,7 +79,7 @@ pub fn traffic() -> Vec<Asked> {
     include_str!("alloc_traffic.txt").lines().map(recorded).collect()
 }
 
-// ---- numbers and lists by chance
+// ---- numbers and lists at random
 
 fn any_i32(r: &mut Random) -> i32 {
     r.within(0, u32::MAX) as i32
@@ -184,7 +184,7 @@ fn any_request(r: &mut Random, writes: bool, state: State, bytes: Vec<u8>) -> As
     Asked { writes, room: [21; 3], numbers, state, offsets, caps, bytes }
 }
 
-// ---- coders by chance
+// ---- random coders
 
 /// A symbol that stands before the allocation: its value and its kind.
 enum Symbol {
@@ -239,7 +239,7 @@ fn any_bytes(r: &mut Random, storage: u32) -> Vec<u8> {
     (0..storage).map(|_| if kind < 2 { [0, 255][kind as usize] } else { r.below(256) as u8 }).collect()
 }
 
-/// A reader of those bytes after a few symbols by chance.
+/// A reader of those bytes after a few random symbols.
 fn reader_after(r: &mut Random, bytes: &mut [u8]) -> State {
     let mut c = entdec::ec_dec_init(bytes);
     for _ in 0..r.below(16) {
@@ -335,7 +335,7 @@ pub fn edge_any(r: &mut Random) -> Vec<Asked> {
     to_an_edge(a)
 }
 
-/// A state by chance within its rule, whether or not symbols lead to it.
+/// A random state within its rule, whether or not symbols lead to it.
 pub fn any_state(r: &mut Random) -> Vec<Asked> {
     let writes = r.below(2) == 0;
     let storage = any_storage(r);

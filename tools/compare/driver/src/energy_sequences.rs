@@ -1,8 +1,8 @@
-//! Requests of energies: recorded traffic; calls by chance over the whole domain; every number of bits left at which the coding of a step changes;
+//! Requests of energies: recorded traffic; random calls over the whole domain; every number of bits left at which the coding of a step changes;
 //! frames decoded one after the other; lists, energies, numbers, lengths and states outside their domain, one by one and two at a time.
 //!
 //! energy_traffic.txt has calls that libopus 1.3.1 made while it decoded synthetic speech and music, CELT only, 2.5 to 20 ms, mono and stereo, 12 to
-//! 400 kbit/s. A line has, parted by tabs, E, C, LM, start, end and intra, or F, C, start, end, the bits left, 21 fine bits and 21 priorities; then
+//! 400 kbit/s. A line has, separated by tabs, E, C, LM, start, end and intra, or F, C, start, end, the bits left, 21 fine bits and 21 priorities; then
 //! the 42 energies by their bits in hex, the state before, the bytes in hex; then what it gave: the energies, and the state after. What lies in
 //! channel 1's places of a mono call is the caller's, and is left alone.
 use crate::energy::Asked;
@@ -54,7 +54,7 @@ pub fn traffic(_: &mut Random, list: &mut Vec<Asked>) {
     list.extend(include_str!("energy_traffic.txt").lines().map(recorded));
 }
 
-// ---- by chance
+// ---- at random
 
 /// An energy as decoders meet them, or at a limit: -9 and its neighbours, both zeros, subnormal, large, the largest.
 fn energy(r: &mut Random) -> u32 {
@@ -68,7 +68,7 @@ pub fn energies(r: &mut Random) -> Vec<u32> {
     (0..42).map(|_| energy(r)).collect()
 }
 
-/// A new reader over bytes by chance, of which many are 0, 128 or 255.
+/// A new reader over random bytes, of which many are 0, 128 or 255.
 fn packet(r: &mut Random, storage: u32) -> (Vec<u8>, State) {
     let any = |r: &mut Random| {
         let b = r.below(256);

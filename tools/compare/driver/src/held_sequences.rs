@@ -12,7 +12,7 @@ use std::collections::BTreeMap;
 /// Longer packets are left out, so that the lines stay short; two fixed requests have the longest.
 pub const LONGEST: usize = 200;
 
-/// At most so many of the list, by chance, in its order.
+/// At most so many of the list, at random, in its order.
 pub fn chosen<T: Clone>(r: &mut Random, list: &[T], most: usize) -> Vec<T> {
     let mut places: Vec<usize> = (0..list.len()).collect();
     while places.len() > most {
@@ -121,7 +121,7 @@ fn recorded(r: &mut Random, list: &mut Vec<Asked>) {
     }
 }
 
-/// Coarse decodes by chance, taken and refused, and those of them that are frames.
+/// Random coarse decodes, taken and refused, and those of them that are frames.
 fn chance(r: &mut Random, list: &mut Vec<Asked>) {
     let mut calls = energy_sequences::requests(r);
     calls.retain(|a| a.coarse && a.energies.len() == 42 && a.bytes.len() <= LONGEST);

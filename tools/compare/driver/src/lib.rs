@@ -1,6 +1,6 @@
 //! Records the oracles' answers, and holds a program's answers against them. Each kind of request is a module: it makes request lines
 //! from a seed, and it answers a line as the oracles do. What the modules know of typed calls (the oracles' answers, document 01's refusals,
-//! requests by chance) is used by `linked` too.
+//! random requests) is used by `linked` too.
 pub mod alloc;
 pub mod alloc_sequences;
 pub mod coder;

@@ -1,4 +1,4 @@
-//! Requests of the lister: document 01's example first; requests by chance over the whole domain, with trim and total given or left out; recorded
+//! Requests of the lister: document 01's example first; random requests over the whole domain, with trim and total given or left out; recorded
 //! packets; the domain's limits; every kind of malformed line; and good lines with one byte changed.
 use crate::listing::listing;
 use crate::random::Random;
@@ -134,7 +134,7 @@ fn damaged(r: &mut Random) -> String {
     line.into_iter().collect()
 }
 
-/// A line by chance: mostly a request of the domain, some of them damaged.
+/// A random line: mostly a request of the domain, some of them damaged.
 pub fn any_line(r: &mut Random) -> String {
     if r.below(4) == 0 { damaged(r) } else { any_request(r).line() }
 }

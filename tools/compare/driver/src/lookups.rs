@@ -82,7 +82,7 @@ fn edges() -> Sequence {
 }
 
 /// Of every band and LM: the least and the most bits, the bits on both sides of half the way to an entry, at the entry and above the last; the
-/// indices at both ends of the row, one outside and one by chance.
+/// indices at both ends of the row, one outside and one at random.
 fn rows(r: &mut Random) -> Vec<Sequence> {
     let mut list = vec![];
     for (band, lm) in (-1..=3).flat_map(|lm| (0..=20).map(move |band| (band, lm))) {

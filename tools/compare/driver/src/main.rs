@@ -82,7 +82,7 @@ const KINDS: [Kind; 10] = [
     },
     Kind {
         name: "trip",
-        program: "try_trip",
+        program: "replay_trip",
         sequences: trip_sequences::all,
         oracle: || Box::new(trip::Oracle),
         figures: trip_sequences::figures,
@@ -90,7 +90,7 @@ const KINDS: [Kind; 10] = [
     },
     Kind {
         name: "stream",
-        program: "try_stream",
+        program: "replay_stream",
         sequences: stream_sequences::all,
         oracle: || Box::new(stream::Oracle::new()),
         figures: stream_sequences::figures,

@@ -1,5 +1,5 @@
 //! Sequences of pulse words: every pair N 2..176, K 1..128 whose V(N,K) is below 2^32 and in the oracles' tables, with the first vector, the
-//! last, a middle one and one by chance; damaged bytes, of which some give a number that is too high; refusals; states that are handed in. 24
+//! last, a middle one and one at random; damaged bytes, of which some give a number that is too high; refusals; states that are handed in. 24
 //! pairs are left out: their counts are in neither oracle's table, and libopus would read past its end.
 use crate::random::Random;
 use crate::words::{count, Maker, Oracle};
@@ -94,7 +94,7 @@ fn too_high(r: &mut Random, list: &mut Vec<Sequence>) {
     }
 }
 
-/// Bytes that no writer made, read as vectors of pairs by chance, on past their end until reads are refused; in every other one the places
+/// Bytes that no writer made, read as vectors of random pairs, on past their end until reads are refused; in every other one the places
 /// past N keep what an earlier vector left.
 fn any_bytes(r: &mut Random, list: &mut Vec<Sequence>) {
     let known = pairs(true);

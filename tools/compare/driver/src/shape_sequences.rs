@@ -1,8 +1,8 @@
-//! Requests of shapes: recorded traffic; every N and every K with vectors, parts and gains by chance; packets read on past their end; counts and
+//! Requests of shapes: recorded traffic; every N and every K with vectors, parts and gains at random; packets read on past their end; counts and
 //! rotations at their limits; numbers, gains, lengths and states outside their domain, one by one and two at a time.
 //!
 //! shape_traffic.txt has calls that libopus 1.3.1 made while it decoded synthetic speech and music, CELT only, 2.5 to 20 ms, mono and stereo, 12 to
-//! 400 kbit/s: those over packets of at most 320 bytes. A line has, parted by tabs, S, N, K, spread, B, the gain's bits in hex, the state before, the
+//! 400 kbit/s: those over packets of at most 320 bytes. A line has, separated by tabs, S, N, K, spread, B, the gain's bits in hex, the state before, the
 //! bytes in hex; then what it gave: the shape by its bits, the collapse mask, the state after. Where a rotation is due, 9 is expected.
 use crate::random::Random;
 use crate::shape::Asked;
@@ -43,7 +43,7 @@ fn traffic(_: &mut Random, list: &mut Vec<Asked>) {
     list.extend(include_str!("shape_traffic.txt").lines().map(recorded));
 }
 
-// ---- by chance
+// ---- at random
 
 /// The K for this N whose count is below 2^32 and in the oracles' tables.
 fn pulses(n: u32) -> Vec<u32> {
@@ -63,7 +63,7 @@ fn gain(r: &mut Random) -> u32 {
     size + r.one_of(&[0, 0, 0, MINUS])
 }
 
-/// A new reader over bytes by chance, of which many are 0, 128 or 255.
+/// A new reader over random bytes, of which many are 0, 128 or 255.
 fn packet(r: &mut Random, storage: u32) -> (Vec<u8>, states::State) {
     let any = |r: &mut Random| {
         let b = r.below(256);
@@ -82,7 +82,7 @@ pub fn asked(r: &mut Random, n: u32, k: u32, storage: u32) -> Asked {
     Asked { state, n: n as i32, k: k as i32, spread: spread as i32, b: b as i32, gain: gain(r), places: n as usize, bytes }
 }
 
-/// Each K 1..128 over two places, whose energies are sums of two squares, and each N with its greatest K and two by chance.
+/// Each K 1..128 over two places, whose energies are sums of two squares, and each N with its greatest K and two at random.
 fn every(r: &mut Random, list: &mut Vec<Asked>) {
     for k in 1..=128 {
         let storage = r.within(1, 8);

@@ -96,7 +96,7 @@ pub fn back(c: &EcCtx) -> State {
     coder::numbers(&saved_back(c))
 }
 
-/// From recorded traffic: storage, end_offs, end_window, nend_bits, nbits_total, offs, rng, val, ext, rem, error, parted by commas.
+/// From recorded traffic: storage, end_offs, end_window, nend_bits, nbits_total, offs, rng, val, ext, rem, error, separated by commas.
 pub fn recorded(text: &str) -> State {
     let n: Vec<u32> = text.split(',').map(|w| w.parse().unwrap_or_else(|_| panic!("'{text}' is no reader's state"))).collect();
     [n[0], n[5], n[1], n[2], n[3], n[4], n[6], n[7], n[8], n[9], (n[10] != 0) as u32]

@@ -1,6 +1,6 @@
 //! A stream record: frames, saved lines and restored ones. The record that a line leaves is the next line's; a sequence begins with a record of its own. The
 //! oracles decode coarse energies (energy.rs), and the record's rule and its lines are document 01's words (record.rs, saved_lines.rs). The fields of
-//! a line are parted by tabs:
+//! a line are separated by tabs:
 //!
 //!     E .. or Q ..    a saved line is restored; so is what begins with no letter below
 //!     F number C LM start end intra state packet    a frame: it is tried with the number after its own, with its own, and with its own once more

@@ -1,6 +1,6 @@
 //! Sequences of a stream record's requests: recorded coarse decodes as frames on the records that they met; a frame one step outside each of its bounds and
 //! with two faults; records with an energy that is not finite, or past the last number; the last numbers; frames one after the other, with repeats
-//! and gaps; lines at every limit, lines of 256ths, and every kind of malformed line; frames and damaged lines by chance, for as long as the
+//! and gaps; lines at every limit, lines of 256ths, and every kind of malformed line; random frames and damaged lines, for as long as the
 //! program that replays them has room.
 use crate::energy::Asked;
 use crate::held_sequences::{chosen, LONGEST};
@@ -192,7 +192,7 @@ fn good_lines(r: &mut Random, list: &mut Vec<Sequence>) {
     list.extend(lines.map(|line| vec![line, short.clone()]));
 }
 
-// ---- by chance
+// ---- at random
 
 /// A few frames one after the other, with repeats, gaps and faults between them.
 fn any_frames(r: &mut Random) -> Sequence {

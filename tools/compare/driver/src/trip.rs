@@ -8,9 +8,9 @@
 //! and a Laplace value, are counted: 0, -1, 1, -2, 2, .. as 0, 1, 2, 3, 4, ..
 //!
 //! An answer is `refused` and a number where the symbols are no list of symbols: 2 where they are not five numbers each, 1 where a kind is above 4 or a
-//! table has entries past the last. Else it says how the trip ends: `refused`, the call (new, symbol and its place, allocation, close) and the number of the refusal; `not closed` where
-//! the close left the error mark; `agreed` where the reader is refused nothing and has the values that count as written, tell and tell_frac after
-//! each call, the allocation's numbers and lists, and no error mark; else `disagreed`.
+//! table has entries past the last. Else it says how the trip ends: `refused`, the call (new, symbol and its place, allocation, close) and the number
+//! of the refusal; `not closed` where the close left the error mark; `agreed` where the reader is refused nothing and has the values that count as
+//! written, tell and tell_frac after each call, the allocation's numbers and lists, and no error mark; else `disagreed`.
 use crate::alloc::{self, Given, Numbers};
 use crate::coder::{self, Call};
 use crate::{refusals, states, Side};

@@ -1,4 +1,4 @@
-//! Round trips: allocations that libopus made while it encoded speech and music, after rows of symbols by chance; rows and allocations by chance over
+//! Round trips: allocations that libopus made while it encoded speech and music, after rows of random symbols; random rows and allocations over
 //! storages of 0 to 1,275 bytes; rows that fill a small storage to its edge and past it; every way in which a symbol or an allocation is outside its
 //! domain, and its last step inside; the longest storage, and longer ones; numbers that are no list of symbols.
 use crate::alloc::Numbers;
@@ -10,7 +10,7 @@ use crate::{alloc_sequences, Sequence};
 use oracle::celt::quant_bands::model_pairs;
 use std::collections::BTreeMap;
 
-/// The entries that the tables of symbols by chance have together at most: a line has room for 300.
+/// The entries that the tables of random symbols have together at most: a line has room for 300.
 const ENTRIES: usize = 280;
 
 /// A row of symbols as it grows, and their tables' entries.
@@ -194,7 +194,8 @@ fn storages(r: &mut Random, list: &mut Vec<Trip>) {
 fn malformed(r: &mut Random, list: &mut Vec<Trip>) {
     let table = |second, third| [1, 0, 3, second, third];
     let wrong: [Symbol; 9] = [
-        [5, 0, 1, 0, 0], [6, 1, 3, 0, 0], [u32::MAX, 0, 0, 0, 0], table(0, 3), table(1, 2), table(2, 1), table(3, 0), table(u32::MAX, u32::MAX), table(2, u32::MAX - 1),
+        [5, 0, 1, 0, 0], [6, 1, 3, 0, 0], [u32::MAX, 0, 0, 0, 0], table(0, 3), table(1, 2), table(2, 1), table(3, 0), table(u32::MAX, u32::MAX),
+        table(2, u32::MAX - 1),
     ];
     let right: [Symbol; 4] = [table(0, 2), table(1, 1), table(2, 0), [2, 1, 7, u32::MAX, u32::MAX]];
     for (y, first) in wrong.iter().chain(&right).flat_map(|y| [(y, true), (y, false)]) {

@@ -161,7 +161,7 @@ impl Maker {
             self.ask(line.to_string());
         }
     }
-    /// A reader over bytes by chance, of which many are 0, 128 or 255.
+    /// A reader over random bytes, of which many are 0, 128 or 255.
     pub fn open_any(&mut self, r: &mut Random, storage: u32) {
         for place in 0..storage {
             let b = r.below(256);

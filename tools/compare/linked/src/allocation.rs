@@ -1,4 +1,4 @@
-//! Whole bit allocations, read and written: recorded traffic, the domain's limits and all refusals, then by chance over the domain, with numbers,
+//! Whole bit allocations, read and written: recorded traffic, the domain's limits and all refusals, then at random over the domain, with numbers,
 //! entries and lengths one step outside it and damaged states. Both oracles answer.
 use crate::both::{expected, Both};
 use crate::damage::damage;

@@ -1,4 +1,4 @@
-//! Sequences of symbols and Laplace values, by chance: written, closed, read back, and read on past the end; with calls one step outside each
+//! Sequences of symbols and Laplace values, at random: written, closed, read back, and read on past the end; with calls one step outside each
 //! bound, lists of a wrong length, damaged states and damaged bytes between them.
 use crate::damage::damage;
 use crate::steps::{Ask, Lent, Step};

@@ -1,4 +1,4 @@
-//! Coarse energies and last bits: recorded traffic, the domain's limits and all refusals, then by chance over the domain, with numbers, entries,
+//! Coarse energies and last bits: recorded traffic, the domain's limits and all refusals, then at random over the domain, with numbers, entries,
 //! energies and lengths outside it and damaged states. Both oracles answer; energies are compared by their bits, and a NaN with any NaN.
 use crate::both::{expected, Both};
 use crate::damage::damage;

@@ -1,4 +1,4 @@
-//! The lister's answers: recorded packets, the domain's limits, every kind of malformed line, then lines by chance, whole and damaged. The allocation is
+//! The lister's answers: recorded packets, the domain's limits, every kind of malformed line, then random lines, whole and damaged. The allocation is
 //! both oracles', inside the lister's own rule, which is document 01's words (driver/src/listing.rs).
 use crate::exports_frame as exports;
 use crate::guarded::Guarded;

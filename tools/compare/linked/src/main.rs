@@ -1,7 +1,7 @@
-//! libcelt.a beside the crate and libopus, in one process: every call is answered by all, and every result, byte, number of a state and refusal is
+//! libgurthapen.a beside the crate and libopus, in one process: every call is answered by all, and every result, byte, number of a state and refusal is
 //! compared.
 //!
-//!     linked KIND SEED CALLS    KIND is a kind or all; CALLS is how many are made by chance, beside those that are always made
+//!     linked KIND SEED CALLS    KIND is a kind or all; CALLS is how many are made at random, beside those that are always made
 mod allocation;
 mod both;
 mod coder;
@@ -50,11 +50,11 @@ type Found = String;
 /// A kind of call.
 struct Kind {
     name: &'static str,
-    /// Its share of the calls by chance where all kinds run: calls that take long have a small one.
+    /// Its share of the random calls where all kinds run: calls that take long have a small one.
     share: u64,
     /// What is always run: all of what is small, limits, recorded traffic.
     fixed: fn(&mut Run) -> Result<(), Found>,
-    /// By chance, until the tally has so many calls.
+    /// At random, until the tally has so many calls.
     chance: fn(&mut Run, u64) -> Result<(), Found>,
 }
 
@@ -116,7 +116,7 @@ fn fail(text: &str) -> ! {
     std::process::exit(1)
 }
 
-/// One kind, from its own numbers by chance, so that it runs alone as it does among all.
+/// One kind, from its own random numbers, so that it runs alone as it does among all.
 fn compared(at: usize, seed: u64, calls: u64) -> (Tally, Option<Found>) {
     let kind = &KINDS[at];
     let own = kind.name.bytes().fold(seed, |sum, b| sum.wrapping_mul(0x100_0000_01b3) ^ b as u64);
@@ -140,7 +140,7 @@ fn main() {
     }
     let asked: Vec<usize> = (0..KINDS.len()).filter(|&at| name == "all" || name == names[at]).collect();
     if LACKED.contains(&name.as_str()) {
-        fail(&format!("libcelt.a lacks the calls of '{name}'"));
+        fail(&format!("libgurthapen.a lacks the calls of '{name}'"));
     }
     if asked.is_empty() {
         fail(&format!("no kind '{name}'; the kinds are: all {}", names.join(" ")));
@@ -154,7 +154,7 @@ fn main() {
     }));
     println!("seed {seed}");
     if name == "all" {
-        LACKED.iter().for_each(|kind| println!("{kind}: left out, since libcelt.a lacks its calls"));
+        LACKED.iter().for_each(|kind| println!("{kind}: left out, since libgurthapen.a lacks its calls"));
     }
     let (mut all, mut differences) = (0, 0);
     let shares: u64 = KINDS.iter().map(|k| k.share).sum();

@@ -1,4 +1,4 @@
-//! Pulse words: every pair N and K with its first and its last vector, written and read, or its refusal; then sequences by chance, read back, read
+//! Pulse words: every pair N and K with its first and its last vector, written and read, or its refusal; then sequences at random, read back, read
 //! from damaged bytes and from bytes that no writer made, with vectors of another sum, numbers outside the domain and damaged states between them.
 //! libopus alone answers. Pairs whose count is in no oracle's table are not compared, and counted.
 use crate::damage::damage;

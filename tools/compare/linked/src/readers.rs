@@ -1,10 +1,10 @@
-//! Readers' states by chance: new ones, ones after a few symbols, and any that obey the rule, whether or not symbols lead to them.
+//! Random states of readers: new ones, ones after a few symbols, and any that obey the rule, whether or not symbols lead to them.
 use driver::random::Random;
 use driver::states::{saved_list, List};
 use oracle::celt::entcode::ec_tell;
 use oracle::celt::entdec;
 
-/// Bytes by chance, of which many are 0, 128 or 255.
+/// Random bytes, of which many are 0, 128 or 255.
 pub fn packet(r: &mut Random, storage: usize) -> Vec<u8> {
     let plain = r.below(2);
     let any = |r: &mut Random| {

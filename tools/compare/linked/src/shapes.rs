@@ -1,4 +1,4 @@
-//! Shapes of bands: recorded traffic, the domain's limits and all refusals, then by chance over the domain, with numbers, gains and lengths outside it
+//! Shapes of bands: recorded traffic, the domain's limits and all refusals, then at random over the domain, with numbers, gains and lengths outside it
 //! and damaged states. The crate's `alg_unquant` answers, over libopus' `decode_pulses`, and libopus' own; shapes are compared by their bits.
 //! Pairs whose count is in no oracle's table are not compared, and counted.
 use crate::both::{expected, Both};

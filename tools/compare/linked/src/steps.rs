@@ -41,13 +41,13 @@ impl std::fmt::Debug for Lent {
 pub enum Step {
     /// So many bytes, all alike.
     Bytes(u16, u8),
-    /// Each byte by chance, from a seed; many are 0, 128 or 255.
+    /// Each byte at random, from a seed; many are 0, 128 or 255.
     Chance(u64),
     /// A byte is changed.
     Byte(u16, u8),
     /// A number of the state is changed.
     Number(u8, i64),
-    /// The places of the vector: N of them hold K pulses by chance, from a seed; the others keep what they have.
+    /// The places of the vector: N of them hold K random pulses, from a seed; the others keep what they have.
     Vector(u32, u32, u64),
     /// The same, with the pulses of the vector of that number, by libopus.
     Numbered(u32, u32, u32),
@@ -102,7 +102,7 @@ impl Ask {
     }
 }
 
-/// N places with K pulses by chance: each pulse goes to any place, and a place has one sign.
+/// N places with K random pulses: each pulse goes to any place, and a place has one sign.
 pub fn vector(n: usize, k: u32, seed: u64) -> [i32; ROOM] {
     let mut r = Random::new(seed);
     let mut y = [0; ROOM];

@@ -8,46 +8,46 @@ macro_rules! exported {
         #[derive(Clone, Copy, PartialEq, Debug)]
         pub enum Name { $($name),* }
 
-        /// Their names in libcelt.a.
+        /// Their names in libgurthapen.a.
         pub const NAMES: &[&str] = &[$($text),*];
     };
 }
 
 exported! {
-    DecNew "celt_dec_new",
-    DecBit "celt_dec_bit_logp",
-    DecIcdf "celt_dec_icdf",
-    DecUint "celt_dec_uint",
-    DecBits "celt_dec_bits",
-    DecTell "celt_dec_tell",
-    DecTellFrac "celt_dec_tell_frac",
-    EncNew "celt_enc_new",
-    EncBit "celt_enc_bit_logp",
-    EncIcdf "celt_enc_icdf",
-    EncUint "celt_enc_uint",
-    EncBits "celt_enc_bits",
-    EncClose "celt_enc_close",
-    EncTell "celt_enc_tell",
-    EncTellFrac "celt_enc_tell_frac",
-    LaplaceDecode "celt_laplace_decode",
-    LaplaceEncode "celt_laplace_encode",
-    DecodePulses "celt_decode_pulses",
-    EncodePulses "celt_encode_pulses",
-    GetPulses "celt_get_pulses",
-    Bits2Pulses "celt_bits2pulses",
-    Pulses2Bits "celt_pulses2bits",
-    AllocationRead "celt_compute_allocation_read",
-    AllocationWrite "celt_compute_allocation_write",
-    Coarse "celt_unquant_coarse_energy",
-    Finalise "celt_unquant_energy_finalise",
-    Shape "celt_alg_unquant",
-    RecordFresh "celt_record_fresh",
-    RecordOrder "celt_record_order",
-    RecordFrame "celt_record_frame",
-    RecordSave "celt_record_save",
-    RecordRestore "celt_record_restore",
-    List "celt_list",
-    RoundTrip "celt_round_trip",
+    DecNew "gurthapen_dec_new",
+    DecBit "gurthapen_dec_bit_logp",
+    DecIcdf "gurthapen_dec_icdf",
+    DecUint "gurthapen_dec_uint",
+    DecBits "gurthapen_dec_bits",
+    DecTell "gurthapen_dec_tell",
+    DecTellFrac "gurthapen_dec_tell_frac",
+    EncNew "gurthapen_enc_new",
+    EncBit "gurthapen_enc_bit_logp",
+    EncIcdf "gurthapen_enc_icdf",
+    EncUint "gurthapen_enc_uint",
+    EncBits "gurthapen_enc_bits",
+    EncClose "gurthapen_enc_close",
+    EncTell "gurthapen_enc_tell",
+    EncTellFrac "gurthapen_enc_tell_frac",
+    LaplaceDecode "gurthapen_laplace_decode",
+    LaplaceEncode "gurthapen_laplace_encode",
+    DecodePulses "gurthapen_decode_pulses",
+    EncodePulses "gurthapen_encode_pulses",
+    GetPulses "gurthapen_get_pulses",
+    Bits2Pulses "gurthapen_bits2pulses",
+    Pulses2Bits "gurthapen_pulses2bits",
+    AllocationRead "gurthapen_compute_allocation_read",
+    AllocationWrite "gurthapen_compute_allocation_write",
+    Coarse "gurthapen_unquant_coarse_energy",
+    Finalise "gurthapen_unquant_energy_finalise",
+    Shape "gurthapen_alg_unquant",
+    RecordFresh "gurthapen_record_fresh",
+    RecordOrder "gurthapen_record_order",
+    RecordFrame "gurthapen_record_frame",
+    RecordSave "gurthapen_record_save",
+    RecordRestore "gurthapen_record_restore",
+    List "gurthapen_list",
+    RoundTrip "gurthapen_round_trip",
 }
 
 /// Why a call was not compared, or with one oracle only.
@@ -157,7 +157,7 @@ impl Tally {
     }
 }
 
-/// A count with its thousands parted.
+/// A count with its thousands separated.
 pub fn grouped(n: u64) -> String {
     let text = n.to_string();
     let parts: Vec<&str> = text.as_bytes().rchunks(3).rev().map(|c| std::str::from_utf8(c).unwrap_or("")).collect();

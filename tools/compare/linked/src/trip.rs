@@ -175,7 +175,7 @@ impl Question for Trip {
         if no != right || !outcome.is(&ends) || lent != *self || !given.as_ref().map_or(true, Both::agree) {
             let held = format!("{no}; outcome {:?}; lists lent for reading as they were: {}", outcome.inner(), lent == *self);
             let said = |ends: &Outcome| format!("0; outcome {ends:?}");
-            return Err(format!("celt_round_trip differs\n  port     {held}{}", expected(&given, right, said)));
+            return Err(format!("gurthapen_round_trip differs\n  port     {held}{}", expected(&given, right, said)));
         }
         if given.as_ref().is_some_and(Both::crate_panics) {
             tally.apart(Name::RoundTrip, Why::CratePanics, || self.shown());

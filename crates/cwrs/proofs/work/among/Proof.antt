@@ -1,3 +1,4 @@
+-- `cwrs::work::among`: by whether the number is one of a vector with a negative first place. Assumes nothing.
 use mathlib.Core.Path.{refl}
 use native.Mathlib.Omega.{arith}
 use borrow.Author.Tests.{le-leb, lt-leb}

@@ -1,7 +1,7 @@
-use denote.Ref.{now}
+-- `cwrs::work::cwrsi`: what is written and the vector that is left to write make up the whole vector at each place. Assumes nothing.
 use mir.Syntax.{w32}
 use mir.Facts.{toZ-ofZ}
-use mathlib.Core.Path.{_≡_, sym, ap, _∙_, refl}
+use mathlib.Core.Path.{_≡_, ap, _∙_, refl}
 use mathlib.Core.Bool.{and-eq-true-iff}
 use mathlib.Core.List.{_++_}
 use Prim.Native.Nat.{ℕ, _+_, _-_, _≤_, _<_}
@@ -31,7 +31,7 @@ loop-holds c =
     let f : a .n ≡ a .n - 0 = omega arith in
     (omega arith, omega arith, refl, c .pre .3 ∙ ap (λ (m : ℕ). Vn m (a .k)) f, ap (λ (m : ℕ). word m (a .k) (a .i)) e, refl)
 
--- a turn: there is a place
+-- a step: there is a place
 more : (c : tie.In-loop Inv-loop μ-loop) → c .before .loop .j < c .before .before .args .n
 more c =
     let j = c .before .loop .j in

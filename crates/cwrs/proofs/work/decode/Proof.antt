@@ -1,3 +1,4 @@
+-- `cwrs::work::decode`: the number that is read is below the count, so its vector has k pulses and a small energy. Assumes nothing.
 use native.Mathlib.Omega.{arith}
 use denote.Ref.{now}
 use Rattle.cwrs_counts.proofs.Recurrence.{V-four, count-is}
@@ -34,10 +35,12 @@ same-length c = search needs
 
 returns : tie.Need-returns
 returns c =
-    let b = c .before .before .before .before .before .before .before .before .before in
+    let at-uniform = c .before .before .before .before .before .before in
+    let at-pvq-v = at-uniform .before in
+    let b = at-pvq-v .before .before in
     let p = b .pre .1 in
-    let v = c .before .before .before .before .before .before .before .pvq-v .ensures in
-    let r = c .before .before .before .before .before .before .uniform .ensures in
+    let v = at-pvq-v .pvq-v .ensures in
+    let r = at-uniform .uniform .ensures in
     let w = c .before .before .before .cwrsi .ensures in (
       found (b .args .n) (b .args .k) (now (b .args .s)) (b .args .d) (now (b .args .y)) (p .5) v r w (c .energy .ensures .0),
       places (b .args .n) (b .args .k) (now (b .args .s)) (b .args .d) (now (b .args .y)) (p .5) v r w,

@@ -1,3 +1,4 @@
+-- `cwrs::work::encode`: the vector's number is below the count, so it can be written as a uniform one. Assumes nothing.
 use mathlib.Core.Path.{ap}
 use native.Mathlib.Omega.{arith}
 use denote.Ref.{now}

@@ -1,3 +1,4 @@
+-- `cwrs::work::energy`: from the last place backwards, e is the energy of the places from j on; 128 pulses keep every square small. Assumes nothing.
 use mathlib.Core.Path.{_≡_, ap, _∙_}
 use mathlib.Core.List.{List}
 use Prim.Native.Nat.{ℕ, _+_, _-_, _*_, _≤_}
@@ -21,22 +22,22 @@ Inv-loop y n e₀ j₀ e j = (j ≤ n) × (e ≡ energy (slice j n y))
 abbrev μ-loop : tie.MeasureT-loop
 μ-loop y n e₀ j₀ e j = j
 
--- what a turn knows: the next place's size s, and the energy with it
+-- what a step of the loop knows: the next place's size s, and the energy with it
 record Facts (y : List ℤ) (n j e s : ℕ) : Type 0 where
   pub square : s * s ≤ 16384
   pub more : energy (slice (j - 1) n y) ≡ e + s * s
   pub low : e + s * s ≤ 16384
 
-facts : (c : tie.After-size Inv-loop μ-loop) → let p = c .before .before .before in
-    Facts (now (p .before .args .y)) (p .before .args .n) (p .loop .j) (p .loop .e) (c .size .result)
+facts : (c : tie.After-unsigned-abs Inv-loop μ-loop) → let p = c .before .before .before in
+    Facts (now (p .before .args .y)) (p .before .args .n) (p .loop .j) (p .loop .e) (c .unsigned-abs .result)
 facts c =
     let b = c .before .before .before .before in
     let l = c .before .before .before .loop in
     let y = now (b .args .y) in
     let n = b .args .n in
-    let r = c .size .result in
+    let r = c .unsigned-abs .result in
     let f : SFits w32 (getD y (l .j - 1) (pos 0)) = record { sfits = c .before .v .given } in
-    let q : r ≡ natAbs (getD y (l .j - 1) (pos 0)) = c .size .ensures .0 ∙ ap natAbs (toZ-ofZ f) in
+    let q : r ≡ natAbs (getD y (l .j - 1) (pos 0)) = c .unsigned-abs .ensures .0 ∙ ap natAbs (toZ-ofZ f) in
     let p = pulses-more y n (l .j) (omega arith) (omega arith) (omega arith) in
     let d = pulses-drop (l .j - 1) (take n y) in
     let s : r ≤ 128 = omega arith in
@@ -57,8 +58,8 @@ mul-v c = omega arith
 shared-slice-copy-out-v : tie.Need-shared-slice-copy-out-v Inv-loop μ-loop
 shared-slice-copy-out-v c = omega arith
 
-size-requires : tie.Need-size-requires Inv-loop μ-loop
-size-requires c κs = tt
+unsigned-abs-requires : tie.Need-unsigned-abs-requires Inv-loop μ-loop
+unsigned-abs-requires c κs = tt
 
 mul-e : tie.Need-mul-e Inv-loop μ-loop
 mul-e c = let f = facts c in omega arith
@@ -91,7 +92,7 @@ energy-spec =
     sub-j
     mul-v
     shared-slice-copy-out-v
-    size-requires
+    unsigned-abs-requires
     mul-e
     add-e
     loop-less

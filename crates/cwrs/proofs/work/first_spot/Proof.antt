@@ -1,10 +1,11 @@
+-- `cwrs::work::first_spot`: what is left of the count is the next one, and the first place follows from the three numbers. Assumes nothing.
 use Prim.Native.Nat.{ℕ, _+_, _-_}
 use mathlib.Core.Path.{_≡_, ap, _∙_}
 use native.Mathlib.Omega.{arith}
 use mir.Syntax.{w32}
 use mir.Facts.{toZ-ofZ}
-use Rattle.cwrs_counts.specs.Count.{U, Vn}
-use Rattle.cwrs_counts.proofs.Recurrence.{V-is′, V-less, up1′}
+use Rattle.cwrs_counts.specs.Count.{U}
+use Rattle.cwrs_counts.proofs.Recurrence.{V-is′, V-one-fewer, up1′}
 use Rattle.cwrs.proofs.Back.{first}
 use borrow.Author.Needs.{needs}
 use Rattle.cwrs.proofs.work.first_spot.Statement.{statement}
@@ -59,7 +60,7 @@ returns c =
       toZ-ofZ {w = w32} (record { sfits = v .ok }) ∙ v .ensures ∙ f .value,
       f .left,
       ap (λ (x : ℕ). q .result - x) (j .ensures .2) ∙ f .rest,
-      omega (arith, j .ensures .2, j .ensures .3, V-less (a .n) (j .result .left) (b .pre .0)),
+      omega (arith, j .ensures .2, j .ensures .3, V-one-fewer (a .n) (j .result .left) (b .pre .0)),
     )
 
 pub first-spot-spec : {M : Type 1} → statement M

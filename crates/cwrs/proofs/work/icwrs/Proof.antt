@@ -1,3 +1,4 @@
+-- `cwrs::work::icwrs`: from the last place backwards, i is the number of the places from j on; it stays below the count. Assumes nothing.
 use mathlib.Core.Path.{_≡_, ap, _∙_, refl}
 use Prim.Native.Nat.{ℕ, _-_, _≤_}
 use native.Mathlib.Omega.{arith}
@@ -11,7 +12,7 @@ use denote.Ref.{now}
 use Rattle.laws.specs.Signs.{isNeg}
 use mir.Facts.{toZ-ofZ}
 use Rattle.cwrs.specs.Word.{pulses, index}
-use Rattle.cwrs.proofs.Words.{pulses-none, index-none, Turn, turn}
+use Rattle.cwrs.proofs.Words.{pulses-none, index-none, NextPlace, next-place}
 use Rattle.cwrs.proofs.work.icwrs.Statement.{statement}
 use Rattle.cwrs.proofs.work.icwrs.Tie as tie
 
@@ -21,37 +22,37 @@ Inv-loop y n i₀ k₀ j₀ i k j = (j ≤ n) × (k ≡ pulses (slice j n y)) ×
 abbrev μ-loop : tie.MeasureT-loop
 μ-loop y n i₀ k₀ j₀ i k j = j
 
--- one turn, before the size of the place is known
+-- one more place, before its size is known
 first : (c : tie.In-loop Inv-loop μ-loop) → let a = c .before .before .args in let l = c .before .loop in
-    Turn (now (a .y)) (a .n) (l .j) (l .k) (l .i) (natAbs (getD (now (a .y)) (l .j - 1) (pos 0)))
+    NextPlace (now (a .y)) (a .n) (l .j) (l .k) (l .i) (natAbs (getD (now (a .y)) (l .j - 1) (pos 0)))
 first c =
     let b = c .before .before in
     let l = c .before .loop in
-    turn (now (b .args .y)) (b .args .n) (l .j) (l .k) (l .i) _ (omega arith) (omega arith) (b .pre .0) (b .pre .2) (b .pre .3) (l .inv .1)
+    next-place (now (b .args .y)) (b .args .n) (l .j) (l .k) (l .i) _ (omega arith) (omega arith) (b .pre .0) (b .pre .2) (b .pre .3) (l .inv .1)
     (l .inv .2) refl
 
-abbrev place : tie.After-size Inv-loop μ-loop → ℤ
+abbrev place : tie.After-unsigned-abs Inv-loop μ-loop → ℤ
 place c =
     let p = c .before .before .before .before in
     getD (now (p .before .args .y)) (p .loop .j - 1) (pos 0)
 
-held : (c : tie.After-size Inv-loop μ-loop) → SFits w32 (place c)
+held : (c : tie.After-unsigned-abs Inv-loop μ-loop) → SFits w32 (place c)
 held c = record { sfits = c .before .before .v .given }
 
 -- and with it
-second : (c : tie.After-size Inv-loop μ-loop) → let p = c .before .before .before .before in
-    Turn (now (p .before .args .y)) (p .before .args .n) (p .loop .j) (p .loop .k) (p .loop .i) (c .size .result)
+second : (c : tie.After-unsigned-abs Inv-loop μ-loop) → let p = c .before .before .before .before in
+    NextPlace (now (p .before .args .y)) (p .before .args .n) (p .loop .j) (p .loop .k) (p .loop .i) (c .unsigned-abs .result)
 second c =
     let b = c .before .before .before .before .before in
     let l = c .before .before .before .before .loop in
-    turn (now (b .args .y)) (b .args .n) (l .j) (l .k) (l .i) (c .size .result) (omega arith) (omega arith) (b .pre .0) (b .pre .2)
-    (b .pre .3) (l .inv .1) (l .inv .2) (c .size .ensures .0 ∙ ap natAbs (toZ-ofZ (held c)))
+    next-place (now (b .args .y)) (b .args .n) (l .j) (l .k) (l .i) (c .unsigned-abs .result) (omega arith) (omega arith) (b .pre .0) (b .pre .2)
+    (b .pre .3) (l .inv .1) (l .inv .2) (c .unsigned-abs .ensures .0 ∙ ap natAbs (toZ-ofZ (held c)))
 
 -- the number with a negative place, and with any other
-below : (c : tie.After-size Inv-loop μ-loop) → isNeg (toZ w32 (ofZ w32 (place c))) ≡ true → isNeg (place c) ≡ true
+below : (c : tie.After-unsigned-abs Inv-loop μ-loop) → isNeg (toZ w32 (ofZ w32 (place c))) ≡ true → isNeg (place c) ≡ true
 below c h = rw (toZ-ofZ (held c)) at h
 
-above : (c : tie.After-size Inv-loop μ-loop) → isNeg (toZ w32 (ofZ w32 (place c))) ≡ false → isNeg (place c) ≡ false
+above : (c : tie.After-unsigned-abs Inv-loop μ-loop) → isNeg (toZ w32 (ofZ w32 (place c))) ≡ false → isNeg (place c) ≡ false
 above c h = rw (toZ-ofZ (held c)) at h
 
 loop-holds : tie.Need-loop-holds Inv-loop μ-loop
@@ -75,8 +76,8 @@ pvq-u-requires c κs = let t = first (c .before) in omega arith
 add-i : tie.Need-add-i Inv-loop μ-loop
 add-i c = let t = first (c .before .before) in omega arith
 
-size-requires : tie.Need-size-requires Inv-loop μ-loop
-size-requires c κs = tt
+unsigned-abs-requires : tie.Need-unsigned-abs-requires Inv-loop μ-loop
+unsigned-abs-requires c κs = tt
 
 cast-k : tie.Need-cast-k Inv-loop μ-loop
 cast-k c = omega arith
@@ -125,7 +126,7 @@ icwrs-spec =
     shared-slice-copy-out-v
     pvq-u-requires
     add-i
-    size-requires
+    unsigned-abs-requires
     cast-k
     add-k
     add-pvq-u

@@ -1,5 +1,6 @@
+-- `cwrs::work::reach`: the search goes down as long as the count is above i, so what it has not yet passed gives the same end. Assumes nothing.
 use mathlib.Core.Path.{_≡_, sym, ap, _∙_, refl}
-use Prim.Native.Nat.{ℕ, _+_, _-_, _≤_}
+use Prim.Native.Nat.{_+_, _-_, _≤_}
 use native.Mathlib.Omega.{arith}
 use Rattle.cwrs_counts.specs.Count.{U}
 use Rattle.cwrs.specs.Word.{reach}

@@ -1,3 +1,4 @@
+-- `cwrs::work::total`: from the last place backwards, k is the pulses of the places from j on. Assumes nothing.
 use lib.IntN.{pos, natAbs}
 use lib.ListN.{getD}
 use denote.Ref.{now}
@@ -31,8 +32,8 @@ mul-v c = omega arith
 shared-slice-copy-out-v : tie.Need-shared-slice-copy-out-v Inv-loop μ-loop
 shared-slice-copy-out-v c = omega arith
 
-size-requires : tie.Need-size-requires Inv-loop μ-loop
-size-requires c κs = tt
+unsigned-abs-requires : tie.Need-unsigned-abs-requires Inv-loop μ-loop
+unsigned-abs-requires c κs = tt
 
 cast-k : tie.Need-cast-k Inv-loop μ-loop
 cast-k c = omega arith
@@ -49,7 +50,7 @@ loop-again c =
     let j = c .before .before .before .loop .j in
     let e = pulses-more (now (a .y)) (a .n) j (omega arith) (omega arith) (omega arith) in
     let f : SFits w32 (getD (now (a .y)) (j - 1) (pos 0)) = record { sfits = c .before .v .given } in
-    let q : c .size .result ≡ natAbs (getD (now (a .y)) (j - 1) (pos 0)) = c .size .ensures .0 ∙ ap natAbs (toZ-ofZ f) in
+    let q : c .unsigned-abs .result ≡ natAbs (getD (now (a .y)) (j - 1) (pos 0)) = c .unsigned-abs .ensures .0 ∙ ap natAbs (toZ-ofZ f) in
     (omega arith, omega arith, omega arith)
 
 returns : tie.Need-returns Inv-loop μ-loop
@@ -69,7 +70,7 @@ total-spec =
     sub-j
     mul-v
     shared-slice-copy-out-v
-    size-requires
+    unsigned-abs-requires
     cast-k
     add-k
     loop-less

@@ -1,8 +1,4 @@
 -- `cwrs_counts::stored::edge`: the counts of rows 0 and 1. Assumes nothing.
-use Prim.Native.Nat.{ℕ}
-use native.Mathlib.Omega.{arith}
-use mathlib.Core.Bool.{_||_}
-use lib.Dec.{eqb}
 use Rattle.cwrs_counts.proofs.Table.{edge-one, edge-none}
 use Rattle.cwrs_counts.proofs.stored.edge.Statement.{statement}
 use Rattle.cwrs_counts.proofs.stored.edge.Tie as tie

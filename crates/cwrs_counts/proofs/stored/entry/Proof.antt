@@ -1,6 +1,6 @@
 -- `cwrs_counts::stored::entry`: a count that fits 32 bits is stored, and what is stored is the count. Assumes nothing.
 use Prim.Native.Nat.{ℕ, _%_, _/_}
-use mathlib.Core.Path.{_≡_, ap, _∙_}
+use mathlib.Core.Path.{ap, _∙_}
 use mathlib.Core.Bool.{cond}
 use native.Mathlib.Omega.{arith}
 use lib.Dec.{eqb}

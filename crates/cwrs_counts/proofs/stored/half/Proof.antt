@@ -1,3 +1,4 @@
+-- `cwrs_counts::stored::half`: by whether the place is even. Assumes nothing.
 use borrow.Author.Needs.{needs}
 use borrow.Author.Tests.{ne-eqb}
 use Rattle.cwrs_counts.proofs.stored.half.Statement.{statement}

@@ -1,13 +1,13 @@
 -- `cwrs_counts::stored::row_11`: each arm has its two numbers, and the last one is past the row's end. Assumes nothing.
 use mathlib.Core.Path.{refl}
 use Rattle.cwrs_counts.specs.Table.{counts}
-use Rattle.cwrs_counts.specs.Rows.{pairAt}
+use Rattle.cwrs_counts.specs.Rows.{packedAt}
 use Rattle.cwrs_counts.proofs.Arms.{hit, missed}
 use Rattle.cwrs_counts.proofs.stored.row_11.Statement.{statement}
 use Rattle.cwrs_counts.proofs.stored.row_11.Tie as tie
 
 pub row-11-spec : {M : Type 1} → statement M
-unfolding counts pairAt
+unfolding counts packedAt
 row-11-spec =
     tie.close
     (tie.spec

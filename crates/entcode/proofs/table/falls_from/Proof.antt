@@ -1,5 +1,4 @@
--- `table::falls_from` meets its contract: what is left of the table falls from the last entry passed exactly when the whole falls from top.
--- Assumes nothing.
+-- `entcode::table::falls_from`: what is left of the table falls from the last entry passed exactly when the whole falls from top. Assumes nothing.
 use native.Mathlib.Omega.{arith}
 use denote.Ref.{now}
 use Prim.Native.Nat.{_≤_, _-_}

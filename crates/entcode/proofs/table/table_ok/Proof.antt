@@ -1,4 +1,4 @@
--- `table::table_ok` meets its contract. Assumes nothing.
+-- `entcode::table::table_ok`: from 2^8 on the bound on the first byte says nothing. Assumes nothing.
 use Prim.Native.Nat.{ℕ, _^_}
 use mathlib.Core.Path.{ap, _∙_}
 use native.Mathlib.Nat.{one-mul}

@@ -1,3 +1,4 @@
+-- `entdec::Reader::bit`: the value lies below the last of 2^logp parts, or not: the two cases of the model. Assumes nothing.
 use Rattle.laws.proofs.Powers.{shr-some}
 use mathlib.Core.Path.{sym}
 use Prim.Native.Nat.{_^_}
@@ -17,11 +18,11 @@ narrow-requires c κs =
     let a = c .before .before .before .before .args in
     let p = c .before .before .before .before .pre in
     record {
-      some = shr-some (a .self .rng) (a .logp) 15 (p .1 .1) (omega arith);
-      top = omega (arith, div-le-self (a .self .rng) (2 ^ a .logp));
-      inside = search needs;
-      told = omega arith;
-      front = omega arith;
+      range-pos = shr-some (a .self .rng) (a .logp) 15 (p .1 .1) (omega arith);
+      range-le = omega (arith, div-le-self (a .self .rng) (2 ^ a .logp));
+      val-lt = search needs;
+      total-le = omega arith;
+      offs-le = omega arith;
     }
 
 sub-narrow : tie.Need-sub-narrow
@@ -34,13 +35,15 @@ returns : tie.Need-returns
 returns c =
     let a = c .before .before .before .before .before .args in
     let p = c .before .before .before .before .before .pre in
-    rw (c .narrow .ensures) (sym (bit-one (now (a .s)) (a .self) (a .logp) (p .1 .0) (shr-some (a .self .rng) (a .logp) 15 (p .1 .1) (omega arith)) (omega arith)))
+    rw (c .narrow .ensures) (sym (bit-one (now (a .s)) (a .self) (a .logp) (p .1 .0) (shr-some (a .self .rng) (a .logp) 15 (p .1 .1) (omega arith))
+    (omega arith)))
 
 returns-2 : tie.Need-returns-2
 returns-2 c =
     let a = c .before .before .before .before .before .before .before .args in
     let p = c .before .before .before .before .before .before .before .pre in
-    rw (c .narrow2 .ensures) (sym (bit-zero (now (a .s)) (a .self) (a .logp) (p .1 .0) (shr-some (a .self .rng) (a .logp) 15 (p .1 .1) (omega arith)) (omega arith)))
+    rw (c .narrow2 .ensures) (sym (bit-zero (now (a .s)) (a .self) (a .logp) (p .1 .0) (shr-some (a .self .rng) (a .logp) 15 (p .1 .1) (omega arith))
+    (omega arith)))
 
 pub bit-spec : {M : Type 1} → statement M
 bit-spec =

@@ -1,3 +1,4 @@
+-- `entdec::Reader::fetch`: a byte above at most 24 bits fits in 32. Assumes nothing.
 use native.Mathlib.Omega.{arith}
 use Rattle.entdec.proofs.RawBits.{shl-byte}
 use Rattle.entdec.specs.Read.{fetch}
@@ -11,8 +12,8 @@ cast-byte-back c = search needs
 byte-back-requires : tie.Need-byte-back-requires
 byte-back-requires c κs = search needs
 
-forward-requires : tie.Need-forward-requires
-forward-requires c κs = search needs
+advanced-requires : tie.Need-advanced-requires
+advanced-requires c κs = search needs
 
 shl-self : tie.Need-shl-self
 shl-self c = search needs
@@ -25,9 +26,9 @@ unfolding fetch
 returns c =
     let d = c .before .before .before .before .before .before .before .args .self in
     let b = c .before .before .before .before .byte-back in
-    rw (shl-byte (b .result) (d .waiting) (b .ensures .1) (omega arith), c .before .before .before .forward .ensures, b .ensures .0)
+    rw (shl-byte (b .result) (d .waiting) (b .ensures .1) (omega arith), c .before .before .before .advanced .ensures, b .ensures .0)
 
 pub fetch-spec : {M : Type 1} → statement M
 fetch-spec =
     tie.close
-    (tie.spec cast-byte-back byte-back-requires forward-requires shl-self add-self returns)
+    (tie.spec cast-byte-back byte-back-requires advanced-requires shl-self add-self returns)

@@ -1,12 +1,13 @@
+-- `entdec::Reader::fill`: the remaining bytes give from here what all gave at the start. Assumes nothing.
 use lib.ListN.{length}
 use denote.Ref.{now}
-use Rattle.entdec.proofs.Pulls.{forth-le}
+use Rattle.entdec.proofs.Pulls.{advanced-le}
 use Prim.Native.Nat.{_≤_, _-_, _+_}
 use mathlib.Core.Path.{_≡_, refl, sym, _∙_}
 use borrow.Author.Needs.{needs}
 use native.Mathlib.Omega.{arith}
 use Rattle.entdec.specs.Read.{fetch}
-use Rattle.entdec.proofs.RawBits.{filled, filled-done, filled-turn}
+use Rattle.entdec.proofs.RawBits.{filled, filled-done, filled-step}
 use Rattle.entdec.proofs.Reader.fill.Statement.{statement}
 use Rattle.entdec.proofs.Reader.fill.Tie as tie
 
@@ -32,7 +33,7 @@ loop-again c =
     let l = c .before .before .before .loop in
     let i = l .inv in
     let a = c .before .before .before .before .before .args in
-    rw (c .fetch .ensures) (sym (filled-turn _ _ (c .before .if1 .taken)) ∙ i .0, omega (arith, forth-le (l .self .ends) (length (now (a .s)))))
+    rw (c .fetch .ensures) (sym (filled-step _ _ (c .before .if1 .taken)) ∙ i .0, omega (arith, advanced-le (l .self .ends) (length (now (a .s)))))
 
 returns : tie.Need-returns Inv-loop μ-loop
 returns c = sym (filled-done _ _ (c .if1 .left)) ∙ c .before .before .loop .inv .0

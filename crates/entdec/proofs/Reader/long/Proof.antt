@@ -1,9 +1,10 @@
+-- `entdec::Reader::long`: eight upper digits and b raw ones make a number of 32 bits; past the last value it is the last. Assumes nothing.
 use mathlib.Core.Path.{_≡_, sym}
 use Prim.Native.Nat.{_+_, _*_, _/_, _%_, _^_, _<_}
 use native.Mathlib.Omega.{arith}
 use denote.Ref.{now}
 use Rattle.entcode.specs.Sym.{flatModel}
-use Rattle.entdec.specs.Read.{readBits, place}
+use Rattle.entdec.specs.Read.{readBits, decodedPlace}
 use Rattle.entdec.specs.Symbols.{readOne, readSym}
 use Rattle.entdec.proofs.Places.{place-less}
 use Rattle.entdec.proofs.Pulls.{total-most, ends-after}
@@ -27,7 +28,7 @@ raw-requires c κs =
     let a = c .before .before .before .args in
     let p = c .before .before .before .pre in
     let ft = a .m / 2 ^ a .b + 1 in
-    let v = place ft (a .self) in
+    let v = decodedPlace ft (a .self) in
     rw (c .before .flat .ensures) (
       omega arith,
       omega (arith, ends-after v (v + 1) ft (a .self .rng / ft) (now (a .s)) (a .self)),
@@ -35,12 +36,15 @@ raw-requires c κs =
     )
 
 -- the raw bits, and the sum, in the definition's terms and with its bound
-low : (c : tie.After-raw) → c .raw .result ≡ readBits (c .before .before .before .before .args .b) (now (c .before .before .before .before .args .s)) (c .before .before .flat .result .next)
+low : (c : tie.After-raw)
+    → c .raw .result ≡ readBits (c .before .before .before .before .args .b) (now (c .before .before .before .before .args .s))
+    (c .before .before .flat .result .next)
 unfolding readSym
 low c = c .raw .ensures
 
 sum : (c : tie.After-struct-known) → let a = c .before .before .before .before .before .before .args in
-    (c .before .before .before .before .flat .result .value * 2 ^ a .b % 2 ^ 32 + c .before .before .raw .result .value ≡ joined (a .m) (a .b) (now (a .s)) (a .self))
+    (c .before .before .before .before .flat .result .value * 2 ^ a .b % 2 ^ 32 + c .before .before .raw .result .value ≡ joined (a .m) (a .b) (now (a .s))
+    (a .self))
     × (joined (a .m) (a .b) (now (a .s)) (a .self) < 2 ^ 32)
 sum c =
     let a = c .before .before .before .before .before .before .args in
@@ -68,8 +72,11 @@ returns c =
 
 returns-2 : tie.Need-returns-2
 returns-2 c =
-    let a = c .before .before .before .before .before .before .before .before .args in
-    rw (c .marked .ensures, low (c .before .before .before .before), c .before .before .before .before .before .before .flat .ensures)
+    let here = c .before .before .before .before in
+    let at-flat = here .before .before in
+    let start = at-flat .before .before in
+    let a = start .args in
+    rw (c .marked .ensures, low here, at-flat .flat .ensures)
     (sym (long-out (a .m) (a .b) (now (a .s)) (a .self) (rw (sum (c .before .before) .0) at (c .before .if1 .left))))
 
 pub long-spec : {M : Type 1} → statement M

@@ -1,3 +1,4 @@
+-- `entdec::Reader::marked`: the other fields stay. Assumes nothing.
 use mathlib.Core.Path.{refl}
 use Rattle.entdec.proofs.Reader.marked.Statement.{statement}
 use Rattle.entdec.proofs.Reader.marked.Tie as tie

@@ -1,11 +1,12 @@
+-- `entdec::Reader::new`: a range of 128 takes three steps. Assumes nothing.
 use lib.ListN.{length}
 use native.Mathlib.Omega.{arith}
 use denote.Ref.{now}
 use borrow.Author.Tests.{le-leb, lt-leb}
-use Rattle.entcode.specs.Range.{turns}
+use Rattle.entcode.specs.Range.{renormSteps}
 use Rattle.entcode.specs.Said.{answer}
 use Rattle.entdec.specs.Read.{freshReader}
-use Rattle.entdec.proofs.Pulls.{forth-le}
+use Rattle.entdec.proofs.Pulls.{advanced-le}
 use borrow.Author.Needs.{needs}
 use Rattle.entdec.proofs.Reader.new.Statement.{statement}
 use Rattle.entdec.proofs.Reader.new.Tie as tie
@@ -13,8 +14,8 @@ use Rattle.entdec.proofs.Reader.new.Tie as tie
 byte-at-requires : tie.Need-byte-at-requires
 byte-at-requires c κs = search needs
 
-forward-requires : tie.Need-forward-requires
-forward-requires c κs = search needs
+advanced-requires : tie.Need-advanced-requires
+advanced-requires c κs = search needs
 
 cast-t8 : tie.Need-cast-t8
 cast-t8 c = search needs
@@ -26,18 +27,18 @@ normalize-requires : tie.Need-normalize-requires
 normalize-requires c κs =
     let s = now (c .before .before .before .before .args .s) in
     record {
-      some = search needs;
-      top = search needs;
-      inside = omega arith;
-      told = search needs;
-      front = omega (arith, c .forward .ensures, forth-le 0 (length s));
+      range-pos = search needs;
+      range-le = search needs;
+      val-lt = omega arith;
+      total-le = search needs;
+      offs-le = omega (arith, c .advanced .ensures, advanced-le 0 (length s));
     }
 
 returns : tie.Need-returns
-unfolding answer freshReader turns
+unfolding answer freshReader renormSteps
 returns c =
     let s = now (c .before .before .before .before .before .args .s) in
-    simp (le-leb (length s) 1275 (omega arith), c .normalize .ensures, c .before .forward .ensures, c .before .before .byte-at .ensures .0)
+    simp (le-leb (length s) 1275 (omega arith), c .normalize .ensures, c .before .advanced .ensures, c .before .before .byte-at .ensures .0)
 
 returns-2 : tie.Need-returns-2
 unfolding answer
@@ -48,7 +49,7 @@ new-spec =
     tie.close
     (tie.spec
     byte-at-requires
-    forward-requires
+    advanced-requires
     cast-t8
     sub-t10
     normalize-requires

@@ -1,12 +1,13 @@
+-- `entdec::Reader::normalize`: the remaining steps give from here what all gave at the start. Assumes nothing.
 use lib.ListN.{length}
 use denote.Ref.{now}
-use Rattle.entdec.proofs.Pulls.{forth-le}
+use Rattle.entdec.proofs.Pulls.{advanced-le}
 use Prim.Native.Nat.{_≤_, _<_, _+_, _-_}
 use mathlib.Core.Path.{_≡_, refl, sym, _∙_}
 use borrow.Author.Needs.{needs}
 use native.Mathlib.Omega.{arith}
 use Rattle.entdec.specs.Read.{pull}
-use Rattle.entdec.proofs.Forms.{normal, normal-done, normal-turn}
+use Rattle.entdec.proofs.Forms.{normal, normal-done, normal-step}
 use Rattle.entdec.proofs.Reader.normalize.Statement.{statement}
 use Rattle.entdec.proofs.Reader.normalize.Tie as tie
 
@@ -34,8 +35,14 @@ loop-again c =
     let l = c .before .before .before .loop in
     let i = l .inv in
     let a = c .before .before .before .before .before .args in
-    rw (c .pull .ensures)
-    (sym (normal-turn _ _ (i .1) (c .before .if1 .taken)) ∙ i .0, omega arith, omega arith, omega arith, omega arith, omega (arith, forth-le (l .self .offs) (length (now (a .s)))))
+    rw (c .pull .ensures) (
+      sym (normal-step _ _ (i .1) (c .before .if1 .taken)) ∙ i .0,
+      omega arith,
+      omega arith,
+      omega arith,
+      omega arith,
+      omega (arith, advanced-le (l .self .offs) (length (now (a .s)))),
+    )
 
 returns : tie.Need-returns Inv-loop μ-loop
 returns c = sym (normal-done _ _ (c .if1 .left)) ∙ c .before .before .loop .inv .0

@@ -1,3 +1,4 @@
+-- `entdec::Reader::pull`: every number stays within 32 bits. Assumes nothing.
 use Rattle.entdec.specs.Read.{pull}
 use borrow.Author.Needs.{needs}
 use Rattle.entdec.proofs.Reader.pull.Statement.{statement}
@@ -27,15 +28,15 @@ add-self-2 c = search needs
 mul-self-3 : tie.Need-mul-self-3
 mul-self-3 c = search needs
 
-forward-requires : tie.Need-forward-requires
-forward-requires c κs = search needs
+advanced-requires : tie.Need-advanced-requires
+advanced-requires c κs = search needs
 
 add-self-3 : tie.Need-add-self-3
 add-self-3 c = search needs
 
 returns : tie.Need-returns
 unfolding pull
-returns c = rw (c .before .forward .ensures, c .before .before .before .before .before .byte-at .ensures .0)
+returns c = rw (c .before .advanced .ensures, c .before .before .before .before .before .byte-at .ensures .0)
 
 pub pull-spec : {M : Type 1} → statement M
 pull-spec =
@@ -49,6 +50,6 @@ pull-spec =
     sub-self
     add-self-2
     mul-self-3
-    forward-requires
+    advanced-requires
     add-self-3
     returns)

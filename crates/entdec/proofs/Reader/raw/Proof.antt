@@ -1,3 +1,4 @@
+-- `entdec::Reader::raw`: by whether enough bits wait. Assumes nothing.
 use mathlib.Core.Path.{ap, _∙_}
 use Prim.Native.Nat.{_-_, _/_}
 use native.Mathlib.Omega.{arith}

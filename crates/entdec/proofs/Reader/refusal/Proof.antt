@@ -1,3 +1,4 @@
+-- `entdec::Reader::refusal`: the tests are those of the definition, in its order. Assumes nothing.
 use Rattle.entdec.specs.Rule.{readRefusal}
 use borrow.Author.Needs.{needs}
 use Rattle.entdec.proofs.Reader.refusal.Statement.{statement}

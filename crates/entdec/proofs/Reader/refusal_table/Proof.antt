@@ -1,4 +1,4 @@
--- `Reader::refusal_table`: the lengths, and then the tests in the order of the refusals. Assumes nothing.
+-- `entdec::Reader::refusal_table`: the lengths, and then the tests in the order of the refusals. Assumes nothing.
 use mathlib.Core.Path.{sym, _∙_}
 use borrow.Author.Needs.{needs}
 use Rattle.entdec.proofs.Lengths.{wrong-lengths}

@@ -1,3 +1,4 @@
+-- `entdec::Reader::shed`: a shift of fewer than 32 places is a power of 2. Assumes nothing.
 use Rattle.laws.proofs.Powers.{shl-one}
 use native.Mathlib.Omega.{arith}
 use lib.Pow.{pow-pos}

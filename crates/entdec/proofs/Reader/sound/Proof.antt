@@ -1,3 +1,4 @@
+-- `entdec::Reader::sound`: the code has the tests in the order of the definition. Assumes nothing.
 use Rattle.entdec.specs.Rule.{readerOk}
 use borrow.Author.Needs.{needs}
 use Rattle.entdec.proofs.Reader.sound.Statement.{statement}

@@ -1,3 +1,4 @@
+-- `entdec::Reader::tell`: by the rule of the state. Assumes nothing.
 use borrow.Author.Needs.{needs}
 use Rattle.entcode.specs.Said.{answer}
 use Rattle.entdec.proofs.Reader.tell.Statement.{statement}

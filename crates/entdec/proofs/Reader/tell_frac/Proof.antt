@@ -1,3 +1,4 @@
+-- `entdec::Reader::tell_frac`: the rule of the state gives what the worker asks. Assumes nothing.
 use native.Mathlib.Omega.{arith}
 use Rattle.entdec.proofs.Accepted.{sound}
 use borrow.Author.Needs.{needs}

@@ -1,3 +1,4 @@
+-- `entdec::Reader::uint`: number 0 of the gate gives the worker its needs; any other is the refusal. Assumes nothing.
 use mathlib.Core.Path.{_≡_, sym, _∙_}
 use lib.Dec.{lit≤}
 use denote.Ref.{now}

@@ -1,3 +1,4 @@
+-- `entdec::Reader::uniform`: more than eight digits: the upper eight and the raw others. Assumes nothing.
 use mathlib.Core.Path.{sym, _∙_}
 use Prim.Native.Nat.{_-_, _≤_, _<_}
 use native.Mathlib.Omega.{arith}
@@ -33,7 +34,7 @@ long-requires c κs =
     let p = c .before .before .before .pre in
     let e : 8 < ilog (a .ft - 1) = rw (c .before .ilog .ensures .0) at (c .if1 .left) in
     let m = many (a .ft - 1) (omega arith) (omega arith) e in
-    rw (c .before .ilog .ensures .0) (p .0, (m .most, m .some, m .less))
+    rw (c .before .ilog .ensures .0) (p .0, (m .bits-le, m .upper-pos, m .upper-lt))
 
 returns : tie.Need-returns
 returns c =

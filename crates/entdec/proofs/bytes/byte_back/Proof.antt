@@ -1,3 +1,4 @@
+-- `entdec::bytes::byte_back`: by the test. Assumes nothing.
 use borrow.Author.Tests.{lt-ltb, le-ltb}
 use Rattle.entdec.specs.Read.{byteBack}
 use borrow.Author.Needs.{needs}

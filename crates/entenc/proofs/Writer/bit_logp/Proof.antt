@@ -1,4 +1,4 @@
--- `Writer::bit_logp` meets its contract. Assumes nothing.
+-- `entenc::Writer::bit_logp`: number 0 of the gate gives the worker its needs; any other is the refusal. Assumes nothing.
 use denote.Ref.{now}
 use borrow.Author.Needs.{needs}
 use Rattle.entcode.specs.Sym.Shape.{bit}
@@ -27,13 +27,16 @@ unfolding refusalW lengthOk shapeOk valueOk listOk
 returns c =
     let a = c .before .before .before .before .before .before .before .args in
     let k = c .before .before .put-bit in
-    say-next _ (refusalW (bit (a .logp)) (a .value) (wr (a .self) (now (a .buf)))) (wr (a .self) (now (a .buf))) (writeSym (bit (a .logp)) (a .value) (wr (a .self) (now (a .buf)))) (c .before .before .before .before .before .refusal .ensures) (wr (k .result) (k .last .1 .0)) (c .before .before .before .before .if1 .taken) (k .ensures)
+    say-next _ (refusalW (bit (a .logp)) (a .value) (wr (a .self) (now (a .buf)))) (wr (a .self) (now (a .buf)))
+    (writeSym (bit (a .logp)) (a .value) (wr (a .self) (now (a .buf)))) (c .before .before .before .before .before .refusal .ensures)
+    (wr (k .result) (k .last .1 .0)) (c .before .before .before .before .if1 .taken) (k .ensures)
 
 returns-2 : tie.Need-returns-2
 unfolding refusalW lengthOk shapeOk valueOk listOk
 returns-2 c =
     let a = c .before .before .before .args in
-    say-no _ (refusalW (bit (a .logp)) (a .value) (wr (a .self) (now (a .buf)))) (wr (a .self) (now (a .buf))) (writeSym (bit (a .logp)) (a .value) (wr (a .self) (now (a .buf)))) (c .before .refusal .ensures) (c .if1 .left)
+    say-no _ (refusalW (bit (a .logp)) (a .value) (wr (a .self) (now (a .buf)))) (wr (a .self) (now (a .buf)))
+    (writeSym (bit (a .logp)) (a .value) (wr (a .self) (now (a .buf)))) (c .before .refusal .ensures) (c .if1 .left)
 
 pub bit-logp-spec : {M : Type 1} → statement M
 bit-logp-spec =

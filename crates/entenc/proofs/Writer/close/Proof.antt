@@ -1,4 +1,4 @@
--- `Writer::close` meets its contract. Assumes nothing.
+-- `entenc::Writer::close`: number 0 of the gate gives the worker its needs; any other is the refusal. Assumes nothing.
 use denote.Ref.{now}
 use borrow.Author.Needs.{needs}
 use Rattle.entenc.specs.Close.{closeW}
@@ -25,13 +25,16 @@ unfolding refusalClose
 returns c =
     let a = c .before .before .before .before .before .before .before .args in
     let k = c .before .before .done in
-    say-next _ (refusalClose (wr (a .self) (now (a .buf)))) (wr (a .self) (now (a .buf))) (closeW (wr (a .self) (now (a .buf)))) (c .before .before .before .before .before .refusal-close .ensures) (wr (k .result) (k .last .1 .0)) (c .before .before .before .before .if1 .taken) (k .ensures)
+    say-next _ (refusalClose (wr (a .self) (now (a .buf)))) (wr (a .self) (now (a .buf))) (closeW (wr (a .self) (now (a .buf))))
+    (c .before .before .before .before .before .refusal-close .ensures) (wr (k .result) (k .last .1 .0)) (c .before .before .before .before .if1 .taken)
+    (k .ensures)
 
 returns-2 : tie.Need-returns-2
 unfolding refusalClose
 returns-2 c =
     let a = c .before .before .before .args in
-    say-no _ (refusalClose (wr (a .self) (now (a .buf)))) (wr (a .self) (now (a .buf))) (closeW (wr (a .self) (now (a .buf)))) (c .before .refusal-close .ensures) (c .if1 .left)
+    say-no _ (refusalClose (wr (a .self) (now (a .buf)))) (wr (a .self) (now (a .buf))) (closeW (wr (a .self) (now (a .buf))))
+    (c .before .refusal-close .ensures) (c .if1 .left)
 
 pub close-spec : {M : Type 1} → statement M
 close-spec =

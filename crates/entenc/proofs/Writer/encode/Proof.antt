@@ -1,4 +1,4 @@
--- `Writer::encode` meets its contract. Assumes nothing.
+-- `entenc::Writer::encode`: what a cut takes of the range, with what is below it, is at most the range. Assumes nothing.
 use mathlib.Core.Path.{_∙_}
 use native.Mathlib.Omega.{arith}
 use denote.Ref.{now}
@@ -8,17 +8,20 @@ use Rattle.entenc.proofs.Forms.{cut-of, cut-is}
 use Rattle.entenc.proofs.Writer.encode.Statement.{statement}
 use Rattle.entenc.proofs.Writer.encode.Tie as tie
 
-off-of-requires : tie.Need-off-of-requires
-off-of-requires c κs = let p = c .before .pre in (omega arith, omega (arith, p .0 .sound .low))
+cut-start-requires : tie.Need-cut-start-requires
+cut-start-requires c κs = let p = c .before .pre in (omega arith, omega (arith, p .0 .sound .range-gt))
 
-wid-of-requires : tie.Need-wid-of-requires
-wid-of-requires c κs = let p = c .before .before .pre in (p .1, p .2, omega (arith, p .0 .sound .low))
+cut-width-requires : tie.Need-cut-width-requires
+cut-width-requires c κs = let p = c .before .before .pre in (p .1, p .2, omega (arith, p .0 .sound .range-gt))
 
 narrow-requires : tie.Need-narrow-requires
 narrow-requires c κs =
     let p = c .before .before .before .before .pre in
-    let k = cut-of p in
-    (p .0, omega (arith, k .some, c .before .wid-of .ensures), omega (arith, k .sum, c .before .wid-of .ensures, c .before .before .off-of .ensures))
+    let k = cut-of p in (
+      p .0,
+      omega (arith, k .width-pos, c .before .cut-width .ensures),
+      omega (arith, k .sum, c .before .cut-width .ensures, c .before .before .cut-start .ensures),
+    )
 
 same-length : tie.Need-same-length
 same-length c = search needs
@@ -27,8 +30,9 @@ returns : tie.Need-returns
 returns c =
     let a = c .before .before .before .before .before .before .before .args in
     c .before .before .narrow .ensures
-    ∙ cut-is (a .fl) (a .fh) (a .ft) (wr (a .self) (now (a .buf))) _ _ (c .before .before .before .before .before .off-of .ensures) (c .before .before .before .before .wid-of .ensures)
+    ∙ cut-is (a .fl) (a .fh) (a .ft) (wr (a .self) (now (a .buf))) _ _ (c .before .before .before .before .before .cut-start .ensures)
+    (c .before .before .before .before .cut-width .ensures)
 
 pub encode-spec : {M : Type 1} → statement M
 encode-spec =
-    tie.close (tie.spec off-of-requires wid-of-requires narrow-requires same-length returns)
+    tie.close (tie.spec cut-start-requires cut-width-requires narrow-requires same-length returns)

@@ -1,4 +1,4 @@
--- `Writer::icdf` meets its contract. Assumes nothing.
+-- `entenc::Writer::icdf`: number 0 of the gate gives the worker its needs; any other is the refusal. Assumes nothing.
 use mathlib.Core.Path.{_≡_}
 use denote.Ref.{now}
 use borrow.Author.Needs.{needs}
@@ -35,7 +35,8 @@ returns c =
     let a = g .before .before .before .args in
     let k = c .before .before .put-icdf in
     let w = wr (a .self) (now (a .buf)) in
-    say-next _ (refusalW (table (now (a .t)) (a .ftb)) (a .s) w) w (writeSym (table (now (a .t)) (a .ftb)) (a .s) w) (gated g) (wr (k .result) (k .last .1 .0)) (c .before .before .before .before .if1 .taken) (k .ensures)
+    say-next _ (refusalW (table (now (a .t)) (a .ftb)) (a .s) w) w (writeSym (table (now (a .t)) (a .ftb)) (a .s) w) (gated g) (wr (k .result) (k .last .1 .0))
+    (c .before .before .before .before .if1 .taken) (k .ensures)
 
 returns-2 : tie.Need-returns-2
 returns-2 c =

@@ -1,4 +1,4 @@
--- `Writer::new` meets its contract. Assumes nothing.
+-- `entenc::Writer::new`: by the length of what is lent. Assumes nothing.
 use native.Mathlib.Omega.{arith}
 use lib.ListN.{length}
 use denote.Ref.{now}

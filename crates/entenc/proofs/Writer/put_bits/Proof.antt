@@ -1,7 +1,7 @@
--- `Writer::put_bits` meets its contract, by whether the bits fit beside those that wait. Assumes nothing.
+-- `entenc::Writer::put_bits`: by whether the bits fit beside those that wait. Assumes nothing.
 use denote.Ref.{now}
 use borrow.Author.Needs.{needs}
-use Rattle.entout.specs.Out.{out}
+use Rattle.entenc_sink.specs.Out.{out}
 use Rattle.entenc.specs.Write.{wr}
 use Rattle.entenc.proofs.RawBits.{bits-fit, bits-flush}
 use Rattle.entenc.proofs.Writer.put_bits.Statement.{statement}
@@ -29,10 +29,14 @@ same-length c = search needs
 
 returns-2 : tie.Need-returns-2
 returns-2 c =
-    let a = c .before .before .before .before .before .before .before .before .before .before .args in
-    let f = c .before .before .before .before .flush in
+    let at-flush = c .before .before .before .before in
+    let at-if1 = at-flush .before .before .before in
+    let start = at-if1 .before .before .before in
+    let a = start .args in
+    let f = at-flush .flush in
     rw (c .topped2 .ensures)
-    (bits-flush (a .n) (a .v) (wr (a .self) (now (a .buf))) (out (f .result .sink) (f .last .1 .0)) _ _ (c .before .before .before .before .before .before .before .if1 .left) (f .ensures .0) (f .ensures .1) (f .ensures .2))
+    (bits-flush (a .n) (a .v) (wr (a .self) (now (a .buf))) (out (f .result .sink) (f .last .1 .0)) _ _ (at-if1 .if1 .left) (f .ensures .0) (f .ensures .1)
+    (f .ensures .2))
 
 pub put-bits-spec : {M : Type 1} → statement M
 put-bits-spec =

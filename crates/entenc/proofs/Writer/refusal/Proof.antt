@@ -1,4 +1,4 @@
--- `Writer::refusal` meets its contract. Assumes nothing.
+-- `entenc::Writer::refusal`: the tests are those of the definition, in its order. Assumes nothing.
 use mathlib.Core.Path.{_∙_}
 use borrow.Author.Needs.{needs}
 use Rattle.entenc.specs.Rule.{writeRefusal}

@@ -1,4 +1,4 @@
--- `Writer::refusal_close` meets its contract. Assumes nothing.
+-- `entenc::Writer::refusal_close`: the tests are those of the definition, in its order. Assumes nothing.
 use mathlib.Core.Path.{_∙_}
 use borrow.Author.Needs.{needs}
 use Rattle.entenc.proofs.Writer.refusal_close.Statement.{statement}

@@ -1,4 +1,4 @@
--- `Writer::refusal_table`: the lengths, and then the tests in the order of the refusals. Assumes nothing.
+-- `entenc::Writer::refusal_table`: the lengths, and then the tests in the order of the refusals. Assumes nothing.
 use mathlib.Core.Path.{sym, _∙_}
 use borrow.Author.Needs.{needs}
 use Rattle.entenc.proofs.Lengths.{wrong-lengths}

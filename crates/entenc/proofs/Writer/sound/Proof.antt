@@ -1,4 +1,4 @@
--- `Writer::sound` meets its contract. Assumes nothing.
+-- `entenc::Writer::sound`: sums in 64 bits are those of the definition. Assumes nothing.
 use borrow.Author.Needs.{needs}
 use Rattle.entenc.specs.Rule.{writerOk}
 use Rattle.entenc.proofs.Writer.sound.Statement.{statement}

@@ -1,4 +1,4 @@
--- `Writer::tell` meets its contract. Assumes nothing.
+-- `entenc::Writer::tell`: by the rule of the state. Assumes nothing.
 use mathlib.Core.Path.{sym, _∙_}
 use borrow.Author.Needs.{needs}
 use Rattle.entcode.specs.Said.{answer}

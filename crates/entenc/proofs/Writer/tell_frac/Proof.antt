@@ -1,4 +1,4 @@
--- `Writer::tell_frac` meets its contract. Assumes nothing.
+-- `entenc::Writer::tell_frac`: the rule of the state gives what the worker asks. Assumes nothing.
 use mathlib.Core.Path.{sym, _∙_}
 use native.Mathlib.Omega.{arith}
 use borrow.Author.Needs.{needs}
@@ -13,7 +13,7 @@ sound-requires c κs = search needs
 tell-frac-of-requires : tie.Need-tell-frac-of-requires
 tell-frac-of-requires c κs =
     let r = ruled (c .before .before .args .self) (sym (c .before .sound .ensures) ∙ c .if1 .taken) in
-    (omega (arith, r .counts .low), r .counts .least, omega (arith, r .counts .most))
+    (omega (arith, r .counts .range-gt), r .counts .total-ge, omega (arith, r .counts .total-le))
 
 returns : tie.Need-returns
 unfolding answer

@@ -1,4 +1,4 @@
--- `Writer::topped` meets its contract. Assumes nothing.
+-- `entenc::Writer::topped`: a number of n bits above those that wait fits in 32. Assumes nothing.
 use native.Mathlib.Omega.{arith}
 use lib.Pow.{shl-exact}
 use borrow.Author.Needs.{needs}

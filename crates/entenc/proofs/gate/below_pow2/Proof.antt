@@ -1,4 +1,4 @@
--- `gate::below_pow2` meets its contract. Assumes nothing.
+-- `entenc::gate::below_pow2`: from 2^32 on every number is below. Assumes nothing.
 use Prim.Native.Nat.{ℕ, _^_, _≤_}
 use mathlib.Core.Path.{ap, sym, _∙_}
 use native.Mathlib.Nat.{one-mul}

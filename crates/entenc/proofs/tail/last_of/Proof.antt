@@ -1,4 +1,4 @@
--- `tail::last_of` meets its contract. Assumes nothing.
+-- `entenc::tail::last_of`: the two roundings stay below 2^32, and the test between them is the definition's. Assumes nothing.
 use mathlib.Core.Path.{_∙_}
 use native.Mathlib.Omega.{arith}
 use borrow.Author.Needs.{needs}

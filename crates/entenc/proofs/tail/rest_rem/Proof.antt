@@ -1,4 +1,4 @@
--- `tail::rest_rem` meets its contract. Assumes nothing.
+-- `entenc::tail::rest_rem`: by the two tests. Assumes nothing.
 use Rattle.entenc.proofs.tail.rest_rem.Statement.{statement}
 use Rattle.entenc.proofs.tail.rest_rem.Tie as tie
 

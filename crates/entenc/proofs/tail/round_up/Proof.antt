@@ -1,4 +1,4 @@
--- `tail::round_up` meets its contract. Assumes nothing.
+-- `entenc::tail::round_up`: val with one less than the unit fits. Assumes nothing.
 use native.Mathlib.Omega.{arith}
 use lib.Pow.{pow-pos}
 use borrow.Author.Needs.{needs}

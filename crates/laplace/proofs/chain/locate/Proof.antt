@@ -3,7 +3,7 @@ use native.Mathlib.Omega.{arith}
 use mathlib.Core.Path.{_∙_, ap}
 use Rattle.modes.proofs.Laplace.{legal-parts}
 use Rattle.laplace.specs.declared.chain.Step.{Step}
-use Rattle.laplace.specs.Chain.{past, first, locateAt}
+use Rattle.laplace.specs.Chain.{past, firstStep, locateAt}
 use Rattle.laplace.proofs.Spans.{walk-went, past-le, locate-more, locate-none, found-proper}
 use borrow.Author.Needs.{needs}
 use Rattle.laplace.proofs.chain.locate.Statement.{statement}
@@ -16,8 +16,8 @@ found-requires : tie.Need-found-requires
 found-requires c κs =
     let a = c .before .before .args in
     let p = c .before .before .pre in
-    let w = walk-went (past (a .fm)) 32 (a .decay) (first (a .fs) (a .decay)) (legal-parts (a .fs) (a .decay) (p .0) .ended) in
-    rw (c .walk-past .ensures) (w .room, w .most, past-le (a .fm) 32 (a .decay) (first (a .fs) (a .decay)) (c .before .if1 .left), p .1)
+    let w = walk-went (past (a .fm)) 32 (a .decay) (firstStep (a .fs) (a .decay)) (legal-parts (a .fs) (a .decay) (p .0) .ended) in
+    rw (c .walk-past .ensures) (w .within, w .most, past-le (a .fm) 32 (a .decay) (firstStep (a .fs) (a .decay)) (c .before .if1 .left), p .1)
 
 returns : tie.Need-returns
 returns c =
@@ -29,7 +29,8 @@ returns c =
 returns-2 : tie.Need-returns-2
 returns-2 c =
     let a = c .before .before .before .args in
-    let q = c .found .ensures ∙ ap (λ (s : Step). locateAt (a .fm) s) (c .before .walk-past .ensures) ∙ locate-more (a .fm) (a .fs) (a .decay) (c .before .before .if1 .left) in
+    let q = c .found .ensures ∙ ap (λ (s : Step). locateAt (a .fm) s) (c .before .walk-past .ensures) ∙ locate-more (a .fm) (a .fs) (a .decay)
+    (c .before .before .if1 .left) in
     let f = found-proper (a .fs) (a .decay) (legal-parts (a .fs) (a .decay) (c .before .before .before .pre .0)) (a .fm) (c .before .before .before .pre .1) in
     (q, rw q (f .0), rw q (f .1), rw q (f .2))
 

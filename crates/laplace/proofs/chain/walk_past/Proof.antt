@@ -2,13 +2,13 @@
 use Prim.Native.Nat.{_-_}
 use native.Mathlib.Omega.{arith}
 use Rattle.modes.proofs.Laplace.{legal-parts}
-use Rattle.laplace.specs.Chain.{first, past}
-use Rattle.laplace.proofs.Walks.{On, on-some, on-first, on-room, on-high, on-next, on-done}
+use Rattle.laplace.specs.Chain.{firstStep, past}
+use Rattle.laplace.proofs.Walks.{On, on-some, on-first, on-within, on-high, on-next, on-done}
 use Rattle.laplace.proofs.chain.walk_past.Statement.{statement}
 use Rattle.laplace.proofs.chain.walk_past.Tie as tie
 
 abbrev Inv-loop : tie.InvT-loop
-Inv-loop fs decay fm s₀ s = On (past fm) decay (first fs decay) s
+Inv-loop fs decay fm s₀ s = On (past fm) decay (firstStep fs decay) s
 
 abbrev μ-loop : tie.MeasureT-loop
 μ-loop fs decay fm s₀ s = 33 - s .i
@@ -22,20 +22,20 @@ loop-holds c =
     rw (c .first-of .ensures) (on-first (past (a .fm)) (a .fs) (a .decay) (legal-parts (a .fs) (a .decay) (c .before .pre)))
 
 mul-if1 : tie.Need-mul-if1 Inv-loop μ-loop
-mul-if1 c = let h = on-room _ _ _ _ (c .before .before .loop .inv) in omega arith
+mul-if1 c = let h = on-within _ _ _ _ (c .before .before .loop .inv) in omega arith
 
 add-if1 : tie.Need-add-if1 Inv-loop μ-loop
-add-if1 c = let h = on-room _ _ _ _ (c .before .before .before .loop .inv) in omega arith
+add-if1 c = let h = on-within _ _ _ _ (c .before .before .before .loop .inv) in omega arith
 
 add-if1-2 : tie.Need-add-if1-2 Inv-loop μ-loop
-add-if1-2 c = let h = on-room _ _ _ _ (c .before .before .before .loop .inv) in omega arith
+add-if1-2 c = let h = on-within _ _ _ _ (c .before .before .before .loop .inv) in omega arith
 
 next-requires : tie.Need-next-requires Inv-loop μ-loop
 next-requires c κs =
     let l = c .before .before .before .before .loop in
     let a = c .before .before .before .before .before .before .args in
     let p = on-some (past (a .fm)) (l .s) (c .if1 .taken) in
-    (on-room _ _ _ _ (l .inv), on-high _ _ _ _ (l .inv) p, legal-parts (a .fs) (a .decay) (c .before .before .before .before .before .before .pre) .slow)
+    (on-within _ _ _ _ (l .inv), on-high _ _ _ _ (l .inv) p, legal-parts (a .fs) (a .decay) (c .before .before .before .before .before .before .pre) .slow)
 
 loop-less : tie.Need-loop-less Inv-loop μ-loop
 loop-less c =

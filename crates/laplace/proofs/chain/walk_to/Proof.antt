@@ -2,13 +2,13 @@
 use Prim.Native.Nat.{_-_}
 use native.Mathlib.Omega.{arith}
 use Rattle.modes.proofs.Laplace.{legal-parts}
-use Rattle.laplace.specs.Chain.{first, upTo}
-use Rattle.laplace.proofs.Walks.{On, on-some, on-first, on-room, on-high, on-next, on-done}
+use Rattle.laplace.specs.Chain.{firstStep, upTo}
+use Rattle.laplace.proofs.Walks.{On, on-some, on-first, on-within, on-high, on-next, on-done}
 use Rattle.laplace.proofs.chain.walk_to.Statement.{statement}
 use Rattle.laplace.proofs.chain.walk_to.Tie as tie
 
 abbrev Inv-loop : tie.InvT-loop
-Inv-loop fs decay a s₀ s = On (upTo a) decay (first fs decay) s
+Inv-loop fs decay a s₀ s = On (upTo a) decay (firstStep fs decay) s
 
 abbrev μ-loop : tie.MeasureT-loop
 μ-loop fs decay a s₀ s = 33 - s .i
@@ -26,7 +26,7 @@ next-requires c κs =
     let l = c .before .before .before .loop in
     let a = c .before .before .before .before .before .args in
     let p = on-some (upTo (a .a)) (l .s) (c .if1 .taken) in
-    (on-room _ _ _ _ (l .inv), on-high _ _ _ _ (l .inv) p, legal-parts (a .fs) (a .decay) (c .before .before .before .before .before .pre) .slow)
+    (on-within _ _ _ _ (l .inv), on-high _ _ _ _ (l .inv) p, legal-parts (a .fs) (a .decay) (c .before .before .before .before .before .pre) .slow)
 
 loop-less : tie.Need-loop-less Inv-loop μ-loop
 loop-less c =

@@ -1,12 +1,12 @@
 -- `laplace::pairs::decays_of`: each arm is the row of its share, and the last arm is reached where there is none. Assumes nothing.
 use mathlib.Core.Path.{refl}
-use Rattle.laplace.specs.Rows.{rows, decaysIn, decaysFor}
+use Rattle.laplace.specs.Rows.{decayRows, decaysIn, decaysFor}
 use Rattle.laplace.proofs.Looked.{hit, missed}
 use Rattle.laplace.proofs.pairs.decays_of.Statement.{statement}
 use Rattle.laplace.proofs.pairs.decays_of.Tie as tie
 
 pub decays-of-spec : {M : Type 1} → statement M
-unfolding rows decaysIn decaysFor
+unfolding decayRows decaysIn decaysFor
 decays-of-spec =
     tie.close
     (tie.spec

@@ -8,7 +8,7 @@ use borrow.Author.Needs.{needs}
 use Rattle.modes.proofs.Laplace.{legal-parts}
 use Rattle.entenc.specs.Write.{wr}
 use Rattle.laplace.specs.Signed.{spanZ}
-use Rattle.laplace.proofs.Answers.{told-is, write-is}
+use Rattle.laplace.proofs.Answers.{written-value, write-is}
 use Rattle.laplace.proofs.work.write.Statement.{statement}
 use Rattle.laplace.proofs.work.write.Tie as tie
 
@@ -37,7 +37,7 @@ returns c =
     let e = spanned (c .before .before .before .before .before) in
     let v = c .before .before .before .before .value-of in
     let k = c .before .before .encode in (
-      told-is (a .fs) (a .decay) (a .value) _ _ e (toZ-ofZ {w = w32} {z = v .result} (search needs) ∙ v .ensures),
+      written-value (a .fs) (a .decay) (a .value) _ _ e (toZ-ofZ {w = w32} {z = v .result} (search needs) ∙ v .ensures),
       write-is (a .fs) (a .decay) (a .value) ok _ (wr (a .w) (now (a .buf))) (wr (k .result) (k .last .1 .0)) e (k .ensures),
     )
 

@@ -1,4 +1,4 @@
--- `modes::cache_bits::entry_in` reads the lent cache.
+-- `modes::cache_bits::entry_in`: the lent table is the definition's list, and every entry of that is a byte. Assumes nothing.
 use Prim.Native.Nat.{_+_}
 use mathlib.Core.Path.{ap}
 use native.Mathlib.Omega.{arith}

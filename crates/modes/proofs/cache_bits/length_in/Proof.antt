@@ -1,4 +1,4 @@
--- `modes::cache_bits::length_in` reads the lent cache.
+-- `modes::cache_bits::length_in`: the lent table is the definition's list, and every entry of that is a byte. Assumes nothing.
 use mathlib.Core.Path.{ap}
 use native.Mathlib.Omega.{arith}
 use lib.ListN.{length}

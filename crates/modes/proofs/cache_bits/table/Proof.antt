@@ -1,4 +1,4 @@
--- `modes::cache_bits::table` hands out the list of the definition.
+-- `modes::cache_bits::table`: the const is the list of the definition, by computing. Assumes nothing.
 use mathlib.Core.Path.{refl}
 use Rattle.modes.specs.CacheBits.{cacheBits}
 use Rattle.modes.proofs.cache_bits.table.Statement.{statement}

@@ -1,4 +1,4 @@
--- `modes::caps::cap_of` reads the entries of the caps.
+-- `modes::caps::cap_of`: the const is the list of the definition, whose entries have the two bounds. Assumes nothing.
 use borrow.Author.Needs.{needs}
 use Rattle.modes.specs.Caps.{caps, capEntry}
 use Rattle.modes.proofs.Entries.{read-between}

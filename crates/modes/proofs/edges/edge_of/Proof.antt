@@ -1,4 +1,4 @@
--- `modes::edges::edge_of` reads the edges.
+-- `modes::edges::edge_of`: the const is the list of the definition, whose greatest entry is the last. Assumes nothing.
 use borrow.Author.Needs.{needs}
 use Rattle.modes.specs.Edges.{edges, edge}
 use Rattle.modes.proofs.Entries.{read}

@@ -1,4 +1,4 @@
--- `modes::edges::width_of` is the difference of two edges.
+-- `modes::edges::width_of`: a band ends where the next one begins, and the edges rise. Assumes nothing.
 use Prim.Native.Nat.{_-_}
 use mathlib.Core.Path.{_≡_, ap}
 use native.Mathlib.Numerals.{add-one}

@@ -1,4 +1,4 @@
--- `modes::energy_model::decay_in` reads the lent model.
+-- `modes::energy_model::decay_in`: the lent table is the definition's list, and a pair's decay is at most 1. Assumes nothing.
 use Prim.Native.Nat.{ℕ, _+_, _*_}
 use mathlib.Core.Path.{_≡_, ap}
 use native.Mathlib.Omega.{arith}

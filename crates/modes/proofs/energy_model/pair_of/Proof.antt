@@ -1,6 +1,6 @@
--- `modes::energy_model::pair_of` counts the pairs.
+-- `modes::energy_model::pair_of`: the sum of the definition, by whether the frame is intra. Assumes nothing.
 use borrow.Author.Needs.{needs}
-use Rattle.modes.specs.EnergyModel.{pairAt}
+use Rattle.modes.specs.EnergyModel.{pairIndex}
 use Rattle.modes.proofs.energy_model.pair_of.Statement.{statement}
 use Rattle.modes.proofs.energy_model.pair_of.Tie as tie
 
@@ -20,11 +20,11 @@ add-result-3 : tie.Need-add-result-3
 add-result-3 c = search needs
 
 returns : tie.Need-returns
-unfolding pairAt
+unfolding pairIndex
 returns c = rw (c .if1 .taken) (search needs)
 
 returns-2 : tie.Need-returns-2
-unfolding pairAt
+unfolding pairIndex
 returns-2 c = rw (c .if1 .left) (search needs)
 
 pub pair-of-spec : {M : Type 1} → statement M

@@ -1,4 +1,4 @@
--- `modes::energy_model::table` hands out the list of the definition.
+-- `modes::energy_model::table`: the const is the list of the definition, by computing. Assumes nothing.
 use mathlib.Core.Path.{refl}
 use Rattle.modes.specs.EnergyModel.{energyModel}
 use Rattle.modes.proofs.energy_model.table.Statement.{statement}

@@ -1,4 +1,4 @@
--- `modes::energy_model::zero_in` reads the lent model.
+-- `modes::energy_model::zero_in`: the lent table is the definition's list, and zero has a place in each pair. Assumes nothing.
 use Prim.Native.Nat.{ℕ, _*_}
 use mathlib.Core.Path.{_≡_, ap}
 use native.Mathlib.Omega.{arith}

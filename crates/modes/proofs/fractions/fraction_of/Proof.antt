@@ -1,4 +1,4 @@
--- `modes::fractions::fraction_of` reads the costs of a choice.
+-- `modes::fractions::fraction_of`: the const is the list of the definition, whose greatest entry is 37. Assumes nothing.
 use borrow.Author.Needs.{needs}
 use Rattle.modes.specs.Fractions.{fractions, fraction}
 use Rattle.modes.proofs.Entries.{read}

@@ -1,4 +1,4 @@
--- `modes::log_widths::log_width_of` reads the logarithms of the bands' widths.
+-- `modes::log_widths::log_width_of`: the const is the list of the definition, whose greatest entry is 36. Assumes nothing.
 use borrow.Author.Needs.{needs}
 use Rattle.modes.specs.LogWidths.{logWidths, logWidth}
 use Rattle.modes.proofs.Entries.{read}

@@ -1,4 +1,4 @@
--- `modes::prediction::coef_of` reads the figures of the definition: each is a whole number over 32768, so that no digit is lost.
+-- `modes::prediction::coef_of`: each figure is a whole number over 32768, so that its decimals lose nothing. Assumes nothing.
 use mathlib.Core.Path.{sym, ap}
 use mathlib.Core.Bool.{Bool}
 use lib.Ieee.{ofBits, round}

@@ -1,4 +1,4 @@
--- `modes::small_energy::table` hands out the list of the definition.
+-- `modes::small_energy::table`: the const is the list of the definition, by computing. Assumes nothing.
 use mathlib.Core.Path.{refl}
 use Rattle.modes.specs.SmallEnergy.{smallEnergy}
 use Rattle.modes.proofs.small_energy.table.Statement.{statement}

@@ -1,10 +1,10 @@
--- `modes::vectors::step_in` reads the lent vectors.
+-- `modes::vectors::step_in`: the lent table is the definition's list, whose greatest entry is 200. Assumes nothing.
 use Prim.Native.Nat.{_+_, _*_}
 use mathlib.Core.Path.{ap}
 use native.Mathlib.Omega.{arith}
 use lib.ListN.{length}
 use borrow.Author.Needs.{needs}
-use Rattle.modes.specs.Vectors.{step}
+use Rattle.modes.specs.Vectors.{vectorEntry}
 use Rattle.modes.proofs.Entries.{lent, read}
 use Rattle.modes.proofs.VectorRule.{vectors-length, step-most}
 use Rattle.modes.proofs.vectors.step_in.Statement.{statement}
@@ -23,7 +23,7 @@ wide-requires : tie.Need-wide-requires
 wide-requires c κs = search needs
 
 returns : tie.Need-returns
-unfolding step
+unfolding vectorEntry
 returns c =
     let a = c .before .before .before .args in
     read (lent (21 * a .v + a .j) (c .before .before .before .pre .0) (c .wide .ensures .0)) (step-most (a .v) (a .j))

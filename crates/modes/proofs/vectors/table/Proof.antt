@@ -1,4 +1,4 @@
--- `modes::vectors::table` hands out the list of the definition.
+-- `modes::vectors::table`: the const is the list of the definition, by computing. Assumes nothing.
 use mathlib.Core.Path.{refl}
 use Rattle.modes.specs.Vectors.{vectors}
 use Rattle.modes.proofs.vectors.table.Statement.{statement}

@@ -3,7 +3,7 @@ use mathlib.Core.Path.{refl}
 use lib.Dec.{leb}
 use denote.Ref.{now}
 use borrow.Author.Needs.{needs}
-use Rattle.quant_bands.specs.Coarse.{going}
+use Rattle.quant_bands.specs.Coarse.{coarseState}
 use Rattle.quant_bands.proofs.Banded.{channel-is}
 use Rattle.quant_bands.proofs.coarse_band.channel.Statement.{statement}
 use Rattle.quant_bands.proofs.coarse_band.channel.Tie as tie
@@ -28,7 +28,8 @@ returns c =
     let y = c .before .before .before .before .before in
     let q = y .before .before in
     let a = q .before .before .before .before .args in
-    channel-is (a .m) (now (a .s)) (a .k) (going (now (a .e)) (a .g .first) (a .g .second) (a .g .next)) (leb 21 (a .k)) refl (q .pick .ensures) (y .energy .ensures) (c .before .pick2 .ensures)
+    channel-is (a .m) (now (a .s)) (a .k) (coarseState (now (a .e)) (a .g .first) (a .g .second) (a .g .next)) (leb 21 (a .k)) refl (q .pick .ensures)
+    (y .energy .ensures) (c .before .pick2 .ensures)
     (c .pick3 .ensures)
 
 pub channel-spec : {M : Type 1} → statement M

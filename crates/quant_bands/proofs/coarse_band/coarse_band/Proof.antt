@@ -7,7 +7,7 @@ use denote.Ref.{now}
 use lib.ListN.{length}
 use borrow.Author.Needs.{needs}
 use Rattle.modes.specs.Laplace.{legal}
-use Rattle.quant_bands.specs.Coarse.{Going, going}
+use Rattle.quant_bands.specs.Coarse.{CoarseState, coarseState}
 use Rattle.quant_bands.proofs.BandKind.{kind-legal}
 use Rattle.quant_bands.proofs.Banded.{channels, channels-none, channels-up, channels-ready, band-is}
 use Rattle.quant_bands.proofs.coarse_band.coarse_band.Statement.{statement}
@@ -16,14 +16,14 @@ use Rattle.quant_bands.proofs.coarse_band.coarse_band.Tie as tie
 abbrev Inv-loop : tie.InvT-loop
 Inv-loop e₀ t c lm intra i s m end y₀ k₀ e y k =
     (k % 21 ≡ i) × (k < end + 21) × (length e ≡ length e₀)
-    × (going e (y .first) (y .second) (y .next) ≡ channels m s i (k / 21) (going e₀ (y₀ .first) (y₀ .second) (y₀ .next)))
+    × (coarseState e (y .first) (y .second) (y .next) ≡ channels m s i (k / 21) (coarseState e₀ (y₀ .first) (y₀ .second) (y₀ .next)))
 
 abbrev μ-loop : tie.MeasureT-loop
 μ-loop e₀ t c lm intra i s m end y₀ k₀ e y k = end - k
 
 -- the energies and what the channels hand on, as the call got them
-abbrev got : tie.Start Inv-loop μ-loop → Going
-got p = let a = p .args in going (now (a .e)) (a .g .first) (a .g .second) (a .g .next)
+abbrev got : tie.Start Inv-loop μ-loop → CoarseState
+got p = let a = p .args in coarseState (now (a .e)) (a .g .first) (a .g .second) (a .g .next)
 
 kind-of-requires : tie.Need-kind-of-requires Inv-loop μ-loop
 kind-of-requires c κs = search needs
@@ -93,7 +93,8 @@ returns c =
     let p = k .before .before .before .before in
     let a = p .args in
     l .inv .3
-    ∙ band-is (k .kind-of .result) (now (a .s)) (a .i) (got p) (a .c) (a .lm) (a .intra) (l .k) (k .kind-of .ensures) (n .end-of .ensures .0) (omega arith) (l .inv .1)
+    ∙ band-is (k .kind-of .result) (now (a .s)) (a .i) (got p) (a .c) (a .lm) (a .intra) (l .k) (k .kind-of .ensures) (n .end-of .ensures .0) (omega arith)
+    (l .inv .1)
 
 pub coarse-band-spec : {M : Type 1} → statement M
 coarse-band-spec =

@@ -21,7 +21,16 @@ refusal-requires c κs = search needs
 returns : tie.Need-returns
 returns c =
     let f = c .before .before .before .before .before .before .fits in
-    rw (c .before .before .coarse-ok .ensures, c .before .all-finite .ensures, toZ-ofZ (f .c), toZ-ofZ (f .lm), toZ-ofZ (f .start), toZ-ofZ (f .end), toZ-ofZ (f .intra))
+    rw (
+      c .before .before .coarse-ok .ensures,
+      c .before .all-finite .ensures,
+      toZ-ofZ (f .c),
+      toZ-ofZ (f .lm),
+      toZ-ofZ (f .start),
+      toZ-ofZ (f .end),
+      toZ-ofZ
+          (f .intra),
+    )
     at (c .refusal .ensures)
 
 returns-2 : tie.Need-returns-2

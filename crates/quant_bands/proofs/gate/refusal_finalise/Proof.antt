@@ -24,7 +24,14 @@ refusal-requires c κs = search needs
 returns : tie.Need-returns
 returns c =
     let f = c .before .before .before .before .before .before .before .fits in
-    rw (c .before .before .before .bands-ok .ensures, c .before .before .all-finite .ensures, c .before .fines-ok .ensures, toZ-ofZ (f .c), toZ-ofZ (f .start), toZ-ofZ (f .end))
+    rw (
+      c .before .before .before .bands-ok .ensures,
+      c .before .before .all-finite .ensures,
+      c .before .fines-ok .ensures,
+      toZ-ofZ (f .c),
+      toZ-ofZ (f .start),
+      toZ-ofZ (f .end),
+    )
     at (c .refusal .ensures)
 
 returns-2 : tie.Need-returns-2

@@ -10,9 +10,9 @@ use mir.Val.{SFits}
 use mir.Facts.{toZ-ofZ}
 use borrow.Author.Needs.{needs}
 use Rattle.entdec.proofs.Chain.{ready-less}
-use Rattle.quant_bands.specs.Finalise.{Spending, spending, takes}
-use Rattle.quant_bands.specs.Question.{entryOf}
-use Rattle.quant_bands.proofs.Spent.{spend-then, takes-so, band-none, band-one, band-two}
+use Rattle.quant_bands.specs.Finalise.{Spending, spending, takesBit}
+use Rattle.quant_bands.specs.Question.{countAt}
+use Rattle.quant_bands.proofs.Spent.{spend-then, takes-so, band-skipped, band-mono, band-stereo}
 use Rattle.quant_bands.proofs.last_bits.spend_band.Statement.{statement}
 use Rattle.quant_bands.proofs.last_bits.spend_band.Tie as tie
 
@@ -39,21 +39,22 @@ clipped-requires-2 : tie.Need-clipped-requires-2
 clipped-requires-2 c κs = search needs
 
 -- the band's fine bits and its priority
-fine-is : (c : tie.After-clipped) → let a = c .before .before .before .before .args in c .clipped .result ≡ entryOf (now (a .fine)) (a .i)
+fine-is : (c : tie.After-clipped) → let a = c .before .before .before .before .args in c .clipped .result ≡ countAt (now (a .fine)) (a .i)
 fine-is c =
     let a = c .before .before .before .before .args in
     let f : SFits w32 (getD (now (a .fine)) (a .i) (pos 0)) = record { sfits = c .before .clipped-arg .given } in
     rw (toZ-ofZ f) at (c .clipped .ensures .0)
 
-priority-is : (c : tie.After-clipped2) → let a = c .before .before .before .before .before .before .args in c .clipped2 .result ≡ entryOf (now (a .priorities)) (a .i)
+priority-is : (c : tie.After-clipped2)
+    → let a = c .before .before .before .before .before .before .args in c .clipped2 .result ≡ countAt (now (a .priorities)) (a .i)
 priority-is c =
     let a = c .before .before .before .before .before .before .args in
     let f : SFits w32 (getD (now (a .priorities)) (a .i) (pos 0)) = record { sfits = c .before .clipped-arg2 .given } in
     rw (toZ-ofZ f) at (c .clipped2 .ensures .0)
 
 taking : (c : tie.Then1) → let q = c .before .before in let f = q .before .before in let a = f .before .before .before .before .args in
-    takes (a .c) (a .turn) (f .clipped .result) (q .clipped2 .result) (a .g .left) ≡ true
-unfolding takes
+    takesBit (a .c) (a .pass) (f .clipped .result) (q .clipped2 .result) (a .g .left) ≡ true
+unfolding takesBit
 taking c = c .if1 .taken
 
 spend-requires : tie.Need-spend-requires
@@ -75,7 +76,8 @@ returns c =
     let f = q .before .before in
     let p = f .before .before .before .before in
     let a = p .args in
-    band-one (a .c) (a .turn) (entryOf (now (a .fine))) (entryOf (now (a .priorities))) (now (a .s)) (a .i) (got p) (fine-is f) (priority-is q) (taking t) (y .spend .ensures) (c .if2 .taken)
+    band-mono (a .c) (a .pass) (countAt (now (a .fine))) (countAt (now (a .priorities))) (now (a .s)) (a .i) (got p) (fine-is f) (priority-is q) (taking t)
+    (y .spend .ensures) (c .if2 .taken)
 
 add-spend : tie.Need-add-spend
 add-spend c = search needs
@@ -104,17 +106,19 @@ returns-2 c =
     let f = q .before .before in
     let p = f .before .before .before .before in
     let a = p .args in
-    band-two (a .c) (a .turn) (entryOf (now (a .fine))) (entryOf (now (a .priorities))) (now (a .s)) (a .i) (got p) (fine-is f) (priority-is q) (taking t) (y .spend .ensures)
+    band-stereo (a .c) (a .pass) (countAt (now (a .fine))) (countAt (now (a .priorities))) (now (a .s)) (a .i) (got p) (fine-is f) (priority-is q) (taking t)
+    (y .spend .ensures)
     (z .before .before .if2 .left) (z .spend2 .ensures)
 
 returns-3 : tie.Need-returns-3
-unfolding takes
+unfolding takesBit
 returns-3 c =
     let q = c .before .before in
     let f = q .before .before in
     let p = f .before .before .before .before in
     let a = p .args in
-    band-none (a .c) (a .turn) (entryOf (now (a .fine))) (entryOf (now (a .priorities))) (now (a .s)) (a .i) (got p) (fine-is f) (priority-is q) (c .if1 .left)
+    band-skipped (a .c) (a .pass) (countAt (now (a .fine))) (countAt (now (a .priorities))) (now (a .s)) (a .i) (got p) (fine-is f) (priority-is q)
+    (c .if1 .left)
 
 pub spend-band-spec : {M : Type 1} → statement M
 spend-band-spec =

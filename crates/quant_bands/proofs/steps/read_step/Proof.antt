@@ -21,7 +21,8 @@ read-small-requires c κs = search needs
 returns-2 : tie.Need-returns-2
 unfolding readStep
 returns-2 c =
-    rw (← c .before .before .before .bits-left .ensures, lt-leb 15 _ (c .before .before .if1 .left), le-leb 2 _ (c .before .if2 .taken)) (c .read-small .ensures)
+    rw (← c .before .before .before .bits-left .ensures, lt-leb 15 _ (c .before .before .if1 .left), le-leb 2 _ (c .before .if2 .taken))
+    (c .read-small .ensures)
 
 read-minus-requires : tie.Need-read-minus-requires
 read-minus-requires c κs = search needs
@@ -30,7 +31,8 @@ returns-3 : tie.Need-returns-3
 unfolding readStep
 returns-3 c =
     let p = c .before .before in
-    rw (← p .before .before .bits-left .ensures, lt-leb 15 _ (p .before .if1 .left), lt-leb 2 _ (p .if2 .left), le-leb 1 _ (c .before .if3 .taken)) (c .read-minus .ensures)
+    rw (← p .before .before .bits-left .ensures, lt-leb 15 _ (p .before .if1 .left), lt-leb 2 _ (p .if2 .left), le-leb 1 _ (c .before .if3 .taken))
+    (c .read-minus .ensures)
 
 returns-4 : tie.Need-returns-4
 unfolding readStep

@@ -8,7 +8,7 @@ use lib.ListN.{length}
 use lib.Ieee.{ofBits}
 use Rattle.laws.specs.Places.{overPlaces}
 use Rattle.laws.proofs.Places.{places-none, places-up}
-use Rattle.quant_bands.specs.Coarse.{going, begun, coarseBand}
+use Rattle.quant_bands.specs.Coarse.{coarseState, coarseStart, coarseBand}
 use Rattle.quant_bands.proofs.Ranged.{coarse-ready}
 use Rattle.quant_bands.proofs.work.coarse_bands.Statement.{statement}
 use Rattle.quant_bands.proofs.work.coarse_bands.Tie as tie
@@ -16,8 +16,8 @@ use Rattle.quant_bands.proofs.work.coarse_bands.Tie as tie
 abbrev Inv-loop : tie.InvT-loop
 Inv-loop s energies₀ t c lm start end intra g₀ i₀ energies g i =
     (start ≤ i) × (i ≤ end) × (length energies ≡ length energies₀)
-    × (going energies (g .first) (g .second) (g .next)
-    ≡ overPlaces (coarseBand c lm intra s) start (i - start) (going energies₀ (g₀ .first) (g₀ .second) (g₀ .next)))
+    × (coarseState energies (g .first) (g .second) (g .next)
+    ≡ overPlaces (coarseBand c lm intra s) start (i - start) (coarseState energies₀ (g₀ .first) (g₀ .second) (g₀ .next)))
 
 abbrev μ-loop : tie.MeasureT-loop
 μ-loop s energies₀ t c lm start end intra g₀ i₀ energies g i = end - i
@@ -46,9 +46,11 @@ loop-less c = omega arith
 
 loop-again : tie.Need-loop-again Inv-loop μ-loop
 loop-again c =
+    let at-loop = c .before .before .before .before .before in
+    let start-2 = at-loop .before .before .before .before in
     let r = c .before .before .coarse-band in
-    let l = c .before .before .before .before .before .loop in
-    let a = c .before .before .before .before .before .before .before .before .before .args in (
+    let l = at-loop .loop in
+    let a = start-2 .args in (
       omega (arith, l .inv),
       omega arith,
       r .kept .0 ∙ l .inv .2,
@@ -64,7 +66,8 @@ returns c =
     let l = c .before .loop in
     let a = c .before .before .before .before .before .args in
     let e : l .i ≡ a .end = omega arith in
-    l .inv .3 ∙ ap (λ (n : ℕ). overPlaces (coarseBand (a .c) (a .lm) (a .intra) (now (a .s))) (a .start) (n - a .start) (begun (a .d) (now (a .energies)))) e
+    l .inv .3 ∙ ap (λ (n : ℕ). overPlaces (coarseBand (a .c) (a .lm) (a .intra) (now (a .s))) (a .start) (n - a .start)
+    (coarseStart (a .d) (now (a .energies)))) e
 
 pub coarse-bands-spec : {M : Type 1} → statement M
 coarse-bands-spec =

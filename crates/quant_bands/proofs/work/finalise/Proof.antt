@@ -7,25 +7,25 @@ use lib.ListN.{length}
 use Rattle.laws.specs.Places.{overPlaces}
 use Rattle.laws.proofs.Places.{places-none, places-up}
 use Rattle.quant_bands.specs.Finalise.{spending}
-use Rattle.quant_bands.specs.Question.{entryOf}
-use Rattle.quant_bands.proofs.Ranged.{pass, turn-ready}
+use Rattle.quant_bands.specs.Question.{countAt}
+use Rattle.quant_bands.proofs.Ranged.{passOf, passes-ready}
 use Rattle.quant_bands.proofs.Accepts.{finalise-is}
 use Rattle.quant_bands.proofs.work.finalise.Statement.{statement}
 use Rattle.quant_bands.proofs.work.finalise.Tie as tie
 
 abbrev Inv-loop : tie.InvT-loop
-Inv-loop s energies₀ c start end fine priorities left y₀ turn₀ energies y turn =
-    (turn ≤ 2) × (length energies ≡ length energies₀)
+Inv-loop s energies₀ c start end fine priorities left y₀ pass₀ energies y pass =
+    (pass ≤ 2) × (length energies ≡ length energies₀)
     × (spending energies (y .left) (y .next)
-    ≡ overPlaces (pass c (entryOf fine) (entryOf priorities) start end s) 0 (turn - 0) (spending energies₀ (y₀ .left) (y₀ .next)))
+    ≡ overPlaces (passOf c (countAt fine) (countAt priorities) start end s) 0 (pass - 0) (spending energies₀ (y₀ .left) (y₀ .next)))
 
 abbrev μ-loop : tie.MeasureT-loop
-μ-loop s energies₀ c start end fine priorities left y₀ turn₀ energies y turn = 2 - turn
+μ-loop s energies₀ c start end fine priorities left y₀ pass₀ energies y pass = 2 - pass
 
 loop-holds : tie.Need-loop-holds Inv-loop μ-loop
 loop-holds c =
     let a = c .before .before .args in
-    (omega arith, refl, places-none (pass (a .c) (entryOf (now (a .fine))) (entryOf (now (a .priorities))) (a .start) (a .end) (now (a .s))) 0 _)
+    (omega arith, refl, places-none (passOf (a .c) (countAt (now (a .fine))) (countAt (now (a .priorities))) (a .start) (a .end) (now (a .s))) 0 _)
 
 spend-pass-requires : tie.Need-spend-pass-requires Inv-loop μ-loop
 spend-pass-requires c κs =
@@ -35,25 +35,31 @@ spend-pass-requires c κs =
     let a = p .args in
     let q = p .pre .0 in (
       (q .0, l .inv .1 ∙ q .1, q .2, q .3),
-      turn-ready (a .c) (entryOf (now (a .fine))) (entryOf (now (a .priorities))) (a .start) (a .end) (now (a .s)) (l .turn) (spending (now (a .energies)) (a .left) (a .d))
+      passes-ready (a .c) (countAt (now (a .fine))) (countAt (now (a .priorities))) (a .start) (a .end) (now (a .s)) (l .pass)
+          (spending (now (a .energies)) (a .left) (a .d))
           (q .0 .end-le) (omega (arith, t)) (p .pre .1) (l .inv .2),
     )
 
-add-turn : tie.Need-add-turn Inv-loop μ-loop
-add-turn c = omega arith
+add-pass : tie.Need-add-pass Inv-loop μ-loop
+add-pass c = omega arith
 
 loop-less : tie.Need-loop-less Inv-loop μ-loop
 loop-less c = omega arith
 
 loop-again : tie.Need-loop-again Inv-loop μ-loop
 loop-again c =
+    let at-loop-test = c .before .before .before .before in
+    let at-loop = at-loop-test .before in
+    let start-2 = at-loop .before .before .before in
     let r = c .before .before .spend-pass in
-    let t = c .before .before .before .before .loop-test in
-    let l = c .before .before .before .before .before .loop in
-    let a = c .before .before .before .before .before .before .before .before .args in (
+    let t = at-loop-test .loop-test in
+    let l = at-loop .loop in
+    let a = start-2 .args in (
       omega (arith, t),
       r .kept .1 .1 .0 ∙ l .inv .1,
-      places-up (pass (a .c) (entryOf (now (a .fine))) (entryOf (now (a .priorities))) (a .start) (a .end) (now (a .s))) 0 (l .turn) _ (omega arith) (l .inv .2) (r .ensures),
+      places-up (passOf (a .c) (countAt (now (a .fine))) (countAt (now (a .priorities))) (a .start) (a .end) (now (a .s))) 0 (l .pass) _ (omega arith)
+          (l .inv .2)
+          (r .ensures),
     )
 
 same-length : tie.Need-same-length Inv-loop μ-loop
@@ -63,10 +69,11 @@ returns : tie.Need-returns Inv-loop μ-loop
 returns c =
     let l = c .before .before .loop in
     let a = c .before .before .before .before .before .args in
-    let e : l .turn - 0 ≡ 2 = omega (arith, c .before .loop-test) in
-    finalise-is (a .c) (entryOf (now (a .fine))) (entryOf (now (a .priorities))) (a .start) (a .end) (a .left) (now (a .s)) (a .d) (now (a .energies))
+    let e : l .pass - 0 ≡ 2 = omega (arith, c .before .loop-test) in
+    finalise-is (a .c) (countAt (now (a .fine))) (countAt (now (a .priorities))) (a .start) (a .end) (a .left) (now (a .s)) (a .d) (now (a .energies))
     (l .inv .2
-    ∙ ap (λ (n : ℕ). overPlaces (pass (a .c) (entryOf (now (a .fine))) (entryOf (now (a .priorities))) (a .start) (a .end) (now (a .s))) 0 n (spending (now (a .energies)) (a .left) (a .d))) e)
+    ∙ ap (λ (n : ℕ). overPlaces (passOf (a .c) (countAt (now (a .fine))) (countAt (now (a .priorities))) (a .start) (a .end) (now (a .s))) 0 n
+    (spending (now (a .energies)) (a .left) (a .d))) e)
 
 pub finalise-spec : {M : Type 1} → statement M
 finalise-spec =
@@ -76,7 +83,7 @@ finalise-spec =
     μ-loop
     loop-holds
     spend-pass-requires
-    add-turn
+    add-pass
     loop-less
     loop-again
     same-length

@@ -10,19 +10,19 @@ use borrow.Author.Tests.{ltb-true}
 use Rattle.laws.specs.Places.{overPlaces}
 use Rattle.laws.proofs.Places.{places-none, places-up}
 use Rattle.quant_bands.specs.Finalise.{spending, spendBand}
-use Rattle.quant_bands.specs.Question.{entryOf}
+use Rattle.quant_bands.specs.Question.{countAt}
 use Rattle.quant_bands.proofs.Ranged.{pass-ready, pass-over}
 use Rattle.quant_bands.proofs.work.spend_pass.Statement.{statement}
 use Rattle.quant_bands.proofs.work.spend_pass.Tie as tie
 
 abbrev Inv-loop : tie.InvT-loop
-Inv-loop s energies₀ turn c start end fine priorities y₀ i₀ energies y i =
+Inv-loop s energies₀ pass c start end fine priorities y₀ i₀ energies y i =
     (start ≤ i) × (i ≤ end) × (length energies ≡ length energies₀)
     × (spending energies (y .left) (y .next)
-    ≡ overPlaces (spendBand c turn (entryOf fine) (entryOf priorities) s) start (i - start) (spending energies₀ (y₀ .left) (y₀ .next)))
+    ≡ overPlaces (spendBand c pass (countAt fine) (countAt priorities) s) start (i - start) (spending energies₀ (y₀ .left) (y₀ .next)))
 
 abbrev μ-loop : tie.MeasureT-loop
-μ-loop s energies₀ turn c start end fine priorities y₀ i₀ energies y i = end - i
+μ-loop s energies₀ pass c start end fine priorities y₀ i₀ energies y i = end - i
 
 loop-holds : tie.Need-loop-holds Inv-loop μ-loop
 loop-holds c =
@@ -31,7 +31,7 @@ loop-holds c =
       le-refl _,
       omega (arith, p .pre .0 .0 .start-lt),
       refl,
-      places-none (spendBand (a .c) (a .turn) (entryOf (now (a .fine))) (entryOf (now (a .priorities))) (now (a .s))) (a .start) _,
+      places-none (spendBand (a .c) (a .pass) (countAt (now (a .fine))) (countAt (now (a .priorities))) (now (a .s))) (a .start) _,
     )
 
 -- a band is left
@@ -46,7 +46,8 @@ spend-band-requires c κs =
     let a = p .args in
     let b = p .pre .0 .0 in (
       (l .inv .2 ∙ p .pre .0 .1, p .pre .0 .2, p .pre .0 .3, omega (arith, b .end-le), b .c-low),
-      pass-ready (a .c) (a .turn) (entryOf (now (a .fine))) (entryOf (now (a .priorities))) (now (a .s)) (a .start) _ (l .i - a .start) (omega (arith, b .end-le)) (p .pre .1) (l .inv .3),
+      pass-ready (a .c) (a .pass) (countAt (now (a .fine))) (countAt (now (a .priorities))) (now (a .s)) (a .start) _ (l .i - a .start)
+          (omega (arith, b .end-le)) (p .pre .1) (l .inv .3),
     )
 
 add-i : tie.Need-add-i Inv-loop μ-loop
@@ -64,7 +65,8 @@ loop-again c =
       omega (arith, l .inv),
       omega (arith, inside t),
       r .kept .0 ∙ l .inv .2,
-      places-up (spendBand (a .c) (a .turn) (entryOf (now (a .fine))) (entryOf (now (a .priorities))) (now (a .s))) (a .start) (l .i) _ (l .inv .0) (l .inv .3) (r .ensures),
+      places-up (spendBand (a .c) (a .pass) (countAt (now (a .fine))) (countAt (now (a .priorities))) (now (a .s))) (a .start) (l .i) _ (l .inv .0) (l .inv .3)
+          (r .ensures),
     )
 
 same-length : tie.Need-same-length Inv-loop μ-loop
@@ -74,7 +76,8 @@ returns : tie.Need-returns Inv-loop μ-loop
 returns c =
     let l = c .before .before .loop in
     let a = c .before .before .before .before .before .args in
-    pass-over (a .c) (a .turn) (entryOf (now (a .fine))) (entryOf (now (a .priorities))) (now (a .s)) (a .start) _ (l .i) (a .end) (l .inv .0) (l .inv .1) (l .inv .3) (c .if1 .left)
+    pass-over (a .c) (a .pass) (countAt (now (a .fine))) (countAt (now (a .priorities))) (now (a .s)) (a .start) _ (l .i) (a .end) (l .inv .0) (l .inv .1)
+    (l .inv .3) (c .if1 .left)
 
 pub spend-pass-spec : {M : Type 1} → statement M
 spend-pass-spec =

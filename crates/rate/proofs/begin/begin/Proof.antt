@@ -1,7 +1,6 @@
 -- `rate::begin::begin`: what is reserved and where skipping ends do not depend on the lists of the other. Assumes nothing.
-use mathlib.Core.Path.{_≡_, refl}
+use mathlib.Core.Path.{refl}
 use denote.Ref.{now}
-use Rattle.rate_bands.specs.Frame.{bare, inOf}
 use Rattle.rate.proofs.Begins.{budget-any, reserved-any}
 use borrow.Author.Needs.{needs}
 use Rattle.rate.proofs.begin.begin.Statement.{statement}
@@ -14,7 +13,7 @@ settle-requires : tie.Need-settle-requires
 settle-requires c κs =
     let p = c .before .before .before in
     let a = p .args in
-    (p .pre .0, p .pre .1, budget-any (a .f) (now (a .offs)) (now (a .caps)) (c .before .before .reserves-of .ensures), refl)
+    (p .pre .0, p .pre .1, budget-any (a .f) (now (a .offsets)) (now (a .caps)) (c .before .before .reserves-of .ensures), refl)
 
 skip-start-requires : tie.Need-skip-start-requires
 skip-start-requires c κs = search needs
@@ -25,7 +24,7 @@ returns c =
     let a = p .args in
     let t = c .before .settle .ensures in (
       record {
-        reserved = reserved-any (a .f) (now (a .offs)) (now (a .caps)) (c .before .before .before .before .reserves-of .ensures);
+        reserved = reserved-any (a .f) (now (a .offsets)) (now (a .caps)) (c .before .before .before .before .reserves-of .ensures);
         left-is = t .0;
         low-is = c .skip-start .ensures;
       },

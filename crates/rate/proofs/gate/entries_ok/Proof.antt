@@ -1,5 +1,4 @@
 -- `rate::gate::entries_ok`: both tests. Assumes nothing.
-use mathlib.Core.Path.{_≡_, refl}
 use borrow.Author.Needs.{needs}
 use Rattle.rate.proofs.gate.entries_ok.Statement.{statement}
 use Rattle.rate.proofs.gate.entries_ok.Tie as tie

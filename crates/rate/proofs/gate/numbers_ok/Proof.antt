@@ -1,5 +1,4 @@
 -- `rate::gate::numbers_ok`: each test in the definition's order. Assumes nothing.
-use mathlib.Core.Path.{_≡_, refl}
 use mir.Syntax.{w32}
 use mir.Val.{SFits}
 use mir.Facts.{toZ-ofZ}

@@ -1,6 +1,5 @@
 -- `rate::gate::refusal_write`: the lengths, and then the tests in the order of the refusals. Assumes nothing.
 use mathlib.Core.Path.{sym, _∙_}
-use mir.Facts.{toZ-ofZ}
 use borrow.Author.Needs.{needs}
 use Rattle.entenc.proofs.Lengths.{wrong-lengths}
 use Rattle.rate.proofs.gate.refusal_write.Statement.{statement}
@@ -27,8 +26,12 @@ refusal-requires c κs = search needs
 returns : tie.Need-returns
 returns c =
     let p = c .before .before .before .before .before .before in
-    let t = rw (toZ-ofZ (p .before .fits .intensity), toZ-ofZ (p .before .fits .dual)) at (c .before .before .stereo-ok .ensures) in
-    rw (p .lengths-ok .ensures, c .before .before .before .numbers-ok .ensures, t, c .before .entries-ok .ensures) at (c .refusal .ensures)
+    rw (
+      p .lengths-ok .ensures,
+      c .before .before .before .numbers-ok .ensures,
+      c .before .before .stereo-ok .ensures,
+      c .before .entries-ok .ensures,
+    ) at (c .refusal .ensures)
 
 returns-2 : tie.Need-returns-2
 returns-2 c =

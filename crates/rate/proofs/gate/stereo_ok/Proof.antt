@@ -1,5 +1,4 @@
 -- `rate::gate::stereo_ok`: each test in the definition's order. Assumes nothing.
-use mathlib.Core.Path.{_≡_, refl}
 use mir.Syntax.{w32}
 use mir.Val.{SFits}
 use mir.Facts.{toZ-ofZ}
@@ -17,14 +16,18 @@ in-range-requires-2 c κs = search needs
 returns : tie.Need-returns
 unfolding stereoOk
 returns c =
-    let p = c .before .before .before .before .before .before in
-    let q = p .args .q in
-    let g = c .before .before .struct-told3 .given in
+    let start = c .before .before .before .before .before .before .before .before in
+    let q = start .args .q in
+    let h = start .args .h in
+    let g = c .before .before .before .struct-told4 .given in
+    let k = c .before .struct-told5 .given in
     let fc : SFits w32 (q .c) = record { sfits = g .0 .1 } in
     let fs : SFits w32 (q .start) = record { sfits = g .1 .1 .0 .1 } in
     let fe : SFits w32 (q .end) = record { sfits = g .1 .1 .1 .0 .1 } in
-    let x = rw (toZ-ofZ (p .fits .intensity), toZ-ofZ fs, toZ-ofZ fe) at (c .before .in-range .ensures) in
-    let y = rw (toZ-ofZ (p .fits .dual)) at (c .in-range2 .ensures) in
+    let fi : SFits w32 (h .intensity) = record { sfits = k .0 .1 } in
+    let fd : SFits w32 (h .dual) = record { sfits = k .1 .0 .1 } in
+    let x = rw (toZ-ofZ fi, toZ-ofZ fs, toZ-ofZ fe) at (c .before .before .in-range .ensures) in
+    let y = rw (toZ-ofZ fd) at (c .in-range2 .ensures) in
     rw (x, y, toZ-ofZ fc)
 
 pub stereo-ok-spec : {M : Type 1} → statement M

@@ -1,5 +1,5 @@
--- `rate_bands::band::high_of`: the next vector's bits, or the cap past the last vector, after the trim, with the boost.
-use Prim.Native.Nat.{ℕ, _+_, _-_, _*_, _/_, _^_, _≤_, _<_}
+-- `rate_bands::band::high_of`: the next vector's bits, or the cap past the last vector, after the trim, with the boost. Assumes nothing.
+use Prim.Native.Nat.{_+_, _*_, _≤_}
 use native.Mathlib.Omega.{arith}
 use Rattle.rate_bands.proofs.Gauges.{high-caps, high-vector, scaled-le, trimmed-most}
 use borrow.Author.Needs.{needs}
@@ -31,12 +31,12 @@ element-copy-out-result c = search needs
 add-result : tie.Need-add-result
 add-result c =
     let s = c .before .before .before .before .before in
-    omega (arith, trimmed-most (s .pre .0) _ (s .args .j) (c .before .trimmed-of .ensures), s .pre .1 .caps-le (s .args .j), s .pre .1 .offs-le (s .args .j))
+    omega (arith, trimmed-most (s .pre .0) _ (s .args .j) (c .before .trimmed-of .ensures), s .pre .1 .caps-le (s .args .j), s .pre .1 .offsets-le (s .args .j))
 
 returns : tie.Need-returns
 returns c =
     let s = c .before .before .before .before .before in
-    high-caps (s .args .f) (s .args .offs .now) (s .args .caps .now) (s .args .v + 1) (s .args .j) (omega arith) (c .before .trimmed-of .ensures)
+    high-caps (s .args .f) (s .args .offsets .now) (s .args .caps .now) (s .args .v + 1) (s .args .j) (omega arith) (c .before .trimmed-of .ensures)
 
 add-step-in : tie.Need-add-step-in
 add-step-in c = search needs
@@ -61,12 +61,13 @@ element-copy-out-result-2 c = search needs
 add-result-2 : tie.Need-add-result-2
 add-result-2 c =
     let s = c .before .before .before .before .before in
-    omega (arith, product (c .before .before), trimmed-most (s .pre .0) _ (s .args .j) (c .before .trimmed-of2 .ensures), s .pre .1 .offs-le (s .args .j))
+    omega (arith, product (c .before .before), trimmed-most (s .pre .0) _ (s .args .j) (c .before .trimmed-of2 .ensures), s .pre .1 .offsets-le (s .args .j))
 
 returns-2 : tie.Need-returns-2
 returns-2 c =
     let s = c .before .before .before .before .before in
-    high-vector (s .args .f) (s .args .offs .now) (s .args .caps .now) (s .args .v + 1) (s .args .j) (s .pre .5 .scale-is) (c .before .before .step-in .ensures .0)
+    high-vector (s .args .f) (s .args .offsets .now) (s .args .caps .now) (s .args .v + 1) (s .args .j) (s .pre .5 .scale-is)
+    (c .before .before .step-in .ensures .0)
     (c .before .trimmed-of2 .ensures) (omega arith)
 
 pub high-of-spec : {M : Type 1} → statement M

@@ -1,5 +1,5 @@
--- `rate_bands::band::low_of`: a quarter of scale times step, after the trim, with the boost unless the vector is 0.
-use Prim.Native.Nat.{ℕ, _+_, _-_, _*_, _/_, _^_, _≤_, _<_}
+-- `rate_bands::band::low_of`: a quarter of scale times step, after the trim, with the boost unless the vector is 0. Assumes nothing.
+use Prim.Native.Nat.{_*_, _≤_}
 use native.Mathlib.Omega.{arith}
 use Rattle.rate_bands.proofs.Gauges.{low-first, low-other, scaled-le, trimmed-most}
 use borrow.Author.Needs.{needs}
@@ -25,7 +25,7 @@ trimmed-of-requires c κs =
 returns : tie.Need-returns
 returns c =
     let s = c .before .before .before .before in
-    low-first (s .args .f) (s .args .offs .now) (s .args .caps .now) (s .args .v) (s .args .j) (s .pre .5 .scale-is) (c .before .before .step-in .ensures .0)
+    low-first (s .args .f) (s .args .offsets .now) (s .args .caps .now) (s .args .v) (s .args .j) (s .pre .5 .scale-is) (c .before .before .step-in .ensures .0)
     (c .before .trimmed-of .ensures) (c .if1 .taken)
 
 mul-result : tie.Need-mul-result
@@ -37,12 +37,19 @@ element-copy-out-result c = search needs
 add-result : tie.Need-add-result
 add-result c =
     let s = c .before .before .before .before .before in
-    omega (arith, product (c .before .before .before), trimmed-most (s .pre .0) _ (s .args .j) (c .before .before .trimmed-of .ensures), s .pre .1 .offs-le (s .args .j))
+    omega (
+      arith,
+      product (c .before .before .before),
+      trimmed-most (s .pre .0) _ (s .args .j) (c .before .before .trimmed-of .ensures),
+      s .pre .1 .offsets-le
+          (s .args .j),
+    )
 
 returns-2 : tie.Need-returns-2
 returns-2 c =
     let s = c .before .before .before .before .before in
-    low-other (s .args .f) (s .args .offs .now) (s .args .caps .now) (s .args .v) (s .args .j) (s .pre .5 .scale-is) (c .before .before .before .step-in .ensures .0)
+    low-other (s .args .f) (s .args .offsets .now) (s .args .caps .now) (s .args .v) (s .args .j) (s .pre .5 .scale-is)
+    (c .before .before .before .step-in .ensures .0)
     (c .before .before .trimmed-of .ensures) (c .before .if1 .left)
 
 pub low-of-spec : {M : Type 1} → statement M

@@ -1,5 +1,5 @@
--- `rate_bands::band::scale_of`: nothing overflows, and the product is the definition's.
-use Prim.Native.Nat.{ℕ, _+_, _-_, _*_, _/_, _^_, _≤_, _<_}
+-- `rate_bands::band::scale_of`: the product fits 32 bits, factor by factor. Assumes nothing.
+use Prim.Native.Nat.{_*_, _≤_}
 use native.Mathlib.Omega.{arith}
 use native.Mathlib.Nat.{mul-le-mul}
 use Rattle.rate_bands.specs.Tilts.{scale}

@@ -1,9 +1,9 @@
--- `rate_bands::band::slope_of`: nothing overflows, and the product is the definition's.
-use Prim.Native.Nat.{ℕ, suc, _+_, _-_, _*_, _/_, _^_, _≤_, _<_}
+-- `rate_bands::band::slope_of`: the product fits 32 bits, factor by factor. Assumes nothing.
+use Prim.Native.Nat.{suc, _-_, _*_, _≤_}
 use native.Mathlib.Omega.{arith}
 use mathlib.Core.Path.{_≡_}
 use native.Mathlib.Nat.{mul-le-mul}
-use Rattle.rate_def.specs.Vectors.{slope}
+use Rattle.rate_spec.specs.Vectors.{slope}
 use Rattle.rate_bands.proofs.Gauges.{power-le, width-le}
 use borrow.Author.Needs.{needs}
 use Rattle.rate_bands.proofs.band.slope_of.Statement.{statement}

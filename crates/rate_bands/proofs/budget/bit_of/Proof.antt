@@ -1,4 +1,4 @@
--- `rate_bands::budget::bit_of` is 8 where the rest has 8.
+-- `rate_bands::budget::bit_of`: by whether the rest has 8. Assumes nothing.
 use borrow.Author.Needs.{needs}
 use borrow.Author.Tests.{le-leb, lt-leb}
 use Rattle.rate_bands.proofs.budget.bit_of.Statement.{statement}

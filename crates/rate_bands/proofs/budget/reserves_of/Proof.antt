@@ -1,8 +1,7 @@
--- `rate_bands::budget::reserves_of` follows the definition case by case.
-use Prim.Native.Nat.{ℕ, _+_, _-_, _*_, _/_, _^_, _≤_, _<_}
+-- `rate_bands::budget::reserves_of`: the three cases, one channel, too little for intensity, and both stereo symbols. Assumes nothing.
 use native.Mathlib.Omega.{arith}
 use mathlib.Core.Path.{_≡_}
-use Rattle.rate_bands.specs.Frame.{bare}
+use Rattle.rate_bands.specs.Inputs.{bare}
 use Rattle.rate_bands.proofs.Reserving.{all-three, is-paid, not-paid, one-channel, skip-alone}
 use borrow.Author.Needs.{needs}
 use Rattle.rate_bands.proofs.budget.reserves_of.Statement.{statement}
@@ -41,8 +40,10 @@ sub-t9 c = search needs
 
 returns-3 : tie.Need-returns-3
 returns-3 c =
-    let a = bare (c .before .before .before .before .before .before .before .before .args .f) in
-    let p = c .before .before .before .before .before .before .before .bit-of .ensures .0 in
+    let at-bit-of = c .before .before .before .before .before .before .before in
+    let start = at-bit-of .before in
+    let a = bare (start .args .f) in
+    let p = at-bit-of .bit-of .ensures .0 in
     let q = c .before .before .fraction-of .ensures .0 in
     let two : a .C ≡ 2 = omega arith in
     all-three a p two q (is-paid a p two q (c .before .if2 .left)) (c .bit-of2 .ensures .0)

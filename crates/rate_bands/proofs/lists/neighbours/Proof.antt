@@ -1,31 +1,31 @@
--- `rate_bands::lists::neighbours`: both lists are filled up to band j.
-use Prim.Native.Nat.{ℕ, _+_, _-_, _*_, _/_, _^_, _≤_, _<_}
+-- `rate_bands::lists::neighbours`: both lists are filled up to band j. Assumes nothing.
+use Prim.Native.Nat.{_-_, _≤_}
 use native.Mathlib.Omega.{arith}
 use mathlib.Core.Path.{_≡_}
 use Rattle.laws.proofs.Lists.{fill-none, fill-up}
 use Rattle.laws.specs.Lists.{fill}
-use Rattle.rate_def.specs.Vectors.{lowBits}
-use Rattle.rate_bands.specs.Frame.{inOf}
+use Rattle.rate_spec.specs.Vectors.{lowerBits}
+use Rattle.rate_bands.specs.Inputs.{allocIn}
 use Rattle.rate_bands.specs.Tilts.{gap}
 use Rattle.rate_bands.proofs.Gauges.{gap-is}
-use Rattle.rate_bands.proofs.Listed.{tilt-at}
+use Rattle.rate_bands.proofs.Listed.{filled, tilt-at}
 use borrow.Author.Needs.{needs}
 use Rattle.rate_bands.proofs.lists.neighbours.Statement.{statement}
 use Rattle.rate_bands.proofs.lists.neighbours.Tie as tie
 
 abbrev Inv-loop : tie.InvT-loop
-Inv-loop f offs caps steps v scales ups downs lows₀ gaps₀ start end j₀ lows gaps j =
-    (f .start ≤ j) × (j ≤ f .end) × (lows ≡ fill (lowBits (inOf f offs caps) v) (f .start) (j - f .start) lows₀)
-    × (gaps ≡ fill (gap (inOf f offs caps) v) (f .start) (j - f .start) gaps₀)
+Inv-loop f offsets caps steps v scales ups downs lows₀ gaps₀ start end j₀ lows gaps j =
+    (f .start ≤ j) × (j ≤ f .end) × (lows ≡ fill (lowerBits (allocIn f offsets caps) v) (f .start) (j - f .start) lows₀)
+    × (gaps ≡ fill (gap (allocIn f offsets caps) v) (f .start) (j - f .start) gaps₀)
 
 abbrev μ-loop : tie.MeasureT-loop
-μ-loop f offs caps steps v scales ups downs lows₀ gaps₀ start end j₀ lows gaps j = f .end - j
+μ-loop f offsets caps steps v scales ups downs lows₀ gaps₀ start end j₀ lows gaps j = f .end - j
 
 loop-holds : tie.Need-loop-holds Inv-loop μ-loop
 loop-holds c =
     let a = c .before .args in
-    let b = inOf (a .f) (a .offs .now) (a .caps .now) in
-    (omega arith, omega arith, fill-none (lowBits b (a .v)) (a .f .start) (a .lows .now), fill-none (gap b (a .v)) (a .f .start) (a .gaps .now))
+    let b = allocIn (a .f) (a .offsets .now) (a .caps .now) in
+    (omega arith, omega arith, fill-none (lowerBits b (a .v)) (a .f .start) (a .lows .now), fill-none (gap b (a .v)) (a .f .start) (a .gaps .now))
 
 mul-scale : tie.Need-mul-scale Inv-loop μ-loop
 mul-scale c = omega arith
@@ -63,8 +63,8 @@ mul-lows c = omega arith
 element-write-lows : tie.Need-element-write-lows Inv-loop μ-loop
 element-write-lows c = omega arith
 
-less-requires : tie.Need-less-requires Inv-loop μ-loop
-less-requires c κs = search needs
+saturating-sub-requires : tie.Need-saturating-sub-requires Inv-loop μ-loop
+saturating-sub-requires c κs = search needs
 
 mul-gaps : tie.Need-mul-gaps Inv-loop μ-loop
 mul-gaps c = omega arith
@@ -82,21 +82,27 @@ loop-again : tie.Need-loop-again Inv-loop μ-loop
 loop-again c =
     let l = c .before .before .before .before .before .before .before in
     let a = l .before .before .args in
-    let b = inOf (a .f) (a .offs .now) (a .caps .now) in
+    let b = allocIn (a .f) (a .offsets .now) (a .caps .now) in
     let v = l .loop .inv in
     let low = c .before .before .low-of .ensures in (
       omega arith,
       omega arith,
-      fill-up (lowBits b (a .v)) (a .f .start) (l .loop .j) (a .lows .now) (v .0) (v .2) low,
+      fill-up (lowerBits b (a .v)) (a .f .start) (l .loop .j) (a .lows .now) (v .0) (v .2) low,
       fill-up (gap b (a .v)) (a .f .start) (l .loop .j) (a .gaps .now) (v .0) (v .3)
-          (gap-is (a .f) (a .offs .now) (a .caps .now) (a .v) (l .loop .j) low (c .before .high-of .ensures) (c .less .ensures)),
+          (gap-is (a .f) (a .offsets .now) (a .caps .now) (a .v) (l .loop .j) low (c .before .high-of .ensures) (c .saturating-sub .ensures)),
     )
 
 returns : tie.Need-returns Inv-loop μ-loop
 returns c =
-    let v = c .before .loop .inv in
-    let e : c .before .loop .j ≡ c .before .before .before .args .f .end = omega arith in
-    (rw e at (v .2), rw e at (v .3))
+    let l = c .before .loop in
+    let s = c .before .before .before in
+    let a = s .args in
+    let i = allocIn (a .f) (a .offsets .now) (a .caps .now) in
+    let e : l .j ≡ a .f .end = omega arith in
+    record {
+      lows-are = filled i (lowerBits i (a .v)) (a .lows .now) (s .pre .0 .end-le) (s .pre .5) (rw e at (l .inv .2));
+      gaps-are = filled i (gap i (a .v)) (a .gaps .now) (s .pre .0 .end-le) (s .pre .6) (rw e at (l .inv .3));
+    }
 
 pub neighbours-spec : {M : Type 1} → statement M
 neighbours-spec =
@@ -115,7 +121,7 @@ neighbours-spec =
     high-of-requires
     mul-lows
     element-write-lows
-    less-requires
+    saturating-sub-requires
     mul-gaps
     element-write-gaps
     add-j

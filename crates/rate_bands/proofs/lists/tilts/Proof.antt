@@ -1,11 +1,11 @@
--- `rate_bands::lists::tilts`: each list is filled up to band j.
-use Prim.Native.Nat.{ℕ, _+_, _-_, _*_, _/_, _^_, _≤_, _<_}
+-- `rate_bands::lists::tilts`: each list is filled up to band j. Assumes nothing.
+use Prim.Native.Nat.{_-_, _≤_}
 use native.Mathlib.Omega.{arith}
-use mathlib.Core.Path.{_≡_, _∙_, ap}
+use mathlib.Core.Path.{_≡_}
 use Rattle.laws.proofs.Lists.{fill-none, fill-up}
 use Rattle.laws.specs.Lists.{fill}
-use Rattle.rate_def.specs.Vectors.{threshold, trimDown, trimUp}
-use Rattle.rate_bands.specs.Frame.{bare}
+use Rattle.rate_spec.specs.Vectors.{threshold, trimDown, trimUp}
+use Rattle.rate_bands.specs.Inputs.{bare}
 use Rattle.rate_bands.specs.Tilts.{scale}
 use Rattle.rate_bands.proofs.lists.tilts.Statement.{statement}
 use Rattle.rate_bands.proofs.lists.tilts.Tie as tie
@@ -65,7 +65,11 @@ element-write-ups : tie.Need-element-write-ups Inv-loop μ-loop
 element-write-ups c = omega arith
 
 down-of-requires : tie.Need-down-of-requires Inv-loop μ-loop
-down-of-requires c κs = (c .before .before .before .before .before .before .before .pre, c .before .before .before .before .width-of .ensures .0, c .before .before .before .slope-of .ensures)
+down-of-requires c κs = (
+  c .before .before .before .before .before .before .before .pre,
+  c .before .before .before .before .width-of .ensures .0,
+  c .before .before .before .slope-of .ensures,
+)
 
 mul-downs : tie.Need-mul-downs Inv-loop μ-loop
 mul-downs c = omega arith

@@ -69,7 +69,8 @@ loop-again-2 c =
     let mid = (l .loop .lo + l .loop .hi + 1) / 2 in
     let m = cost-some (l .before .before .before .args .start) mid (omega arith) in
     let h = pow-half (l .loop .n) (omega arith) in (
-      high-down _ _ (l .loop .lo) (l .loop .hi) mid w (omega arith) (omega arith) (omega arith) (omega (arith, c .before .entry-in .ensures .0, c .if1 .left, m)),
+      high-down _ _ (l .loop .lo) (l .loop .hi) mid w (omega arith) (omega arith) (omega arith)
+          (omega (arith, c .before .entry-in .ensures .0, c .if1 .left, m)),
       omega (arith, l .loop .inv .1),
     )
 
@@ -90,10 +91,6 @@ mul-if2 c = omega arith
 
 add-if2 : tie.Need-add-if2 Inv-loop μ-loop
 add-if2 c = omega arith
-
--- after the last halving
-met : (l : tie.At-loop Inv-loop μ-loop) → l .loop .n ≡ 0 → l .loop .hi ≤ l .loop .lo + 1
-met l z = rw z at (l .loop .inv .1)
 
 returns : tie.Need-returns Inv-loop μ-loop
 returns c =

@@ -1,4 +1,4 @@
--- `rate_skip::choice::depth_of`: by the two tests. Assumes nothing.
+-- `rate_skip::choice::depth_of`: by the number of coded bands and by the frame before. Assumes nothing.
 use native.Mathlib.Omega.{arith}
 use borrow.Author.Tests.{lt-ltb, le-ltb}
 use mir.Syntax.{w32}

@@ -1,4 +1,4 @@
--- `rate_skip::choice::stops_of`: by the first test; the others are the answer. Assumes nothing.
+-- `rate_skip::choice::stops_of`: by whether two bands are left; the product of the depth fits 32 bits, and the last test is the answer. Assumes nothing.
 use Prim.Native.Nat.{_-_, _*_, _≤_, _<_}
 use native.Mathlib.Omega.{arith}
 use native.Mathlib.Nat.{mul-le-mul}
@@ -7,7 +7,7 @@ use borrow.Author.Tests.{le-leb, lt-leb}
 use mir.Syntax.{w32}
 use mir.Facts.{toZ-ofZ, toZ-pos}
 use Rattle.modes.proofs.EdgeRule.{width-most}
-use Rattle.rate_def.specs.Answers.{depth, stops}
+use Rattle.rate_spec.specs.Answers.{depth, stops}
 use borrow.Author.Needs.{needs}
 use Rattle.rate_skip.proofs.choice.stops_of.Statement.{statement}
 use Rattle.rate_skip.proofs.choice.stops_of.Tie as tie
@@ -55,7 +55,14 @@ unfolding stops depth
 returns-2 c =
     let s = c .before .before .before .before in
     let h : s .args .coded - 1 < 2147483648 = omega arith in
-    rw (lt-leb _ _ (c .before .before .if1 .left), ← rw (toZ-ofZ (s .fits .previous)) at (c .before .depth-of .ensures .0), ← s .pre .3, ← c .pow2 .ensures, toZ-pos w32 h, toZ-ofZ (s .fits .bandwidth))
+    rw (
+      lt-leb _ _ (c .before .before .if1 .left),
+      ← rw (toZ-ofZ (s .fits .previous)) at (c .before .depth-of .ensures .0),
+      ← s .pre .3,
+      ← c .pow2 .ensures,
+      toZ-pos w32 h,
+      toZ-ofZ (s .fits .bandwidth),
+    )
 
 pub stops-of-spec : {M : Type 1} → statement M
 stops-of-spec =

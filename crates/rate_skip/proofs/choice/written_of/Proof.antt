@@ -1,4 +1,4 @@
--- `rate_skip::choice::written_of`: by the two tests. Assumes nothing.
+-- `rate_skip::choice::written_of`: by where the intensity lies, below start, below the coded bands' end, or above it. Assumes nothing.
 use native.Mathlib.Omega.{arith}
 use Rattle.rate_skip.proofs.choice.written_of.Statement.{statement}
 use Rattle.rate_skip.proofs.choice.written_of.Tie as tie

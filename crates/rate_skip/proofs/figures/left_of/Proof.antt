@@ -2,9 +2,9 @@
 use mathlib.Core.Bool.{cond}
 use mathlib.Core.Path.{_≡_}
 use native.Mathlib.Omega.{arith}
-use Rattle.rate_def.specs.Alloc.{dualAsked, leftOf}
-use Rattle.rate_def.proofs.Within.{reserved}
-use Rattle.rate_bands.specs.Frame.{bare}
+use Rattle.rate_spec.specs.Alloc.{dualAsked, leftOf}
+use Rattle.rate_spec.proofs.Within.{reserved}
+use Rattle.rate_bands.specs.Inputs.{bare}
 use borrow.Author.Needs.{needs}
 use Rattle.rate_skip.proofs.figures.left_of.Statement.{statement}
 use Rattle.rate_skip.proofs.figures.left_of.Tie as tie
@@ -23,7 +23,15 @@ back-of-requires-2 c κs = search needs
 add-result-2 : tie.Need-add-result-2
 add-result-2 c =
     let s = c .before .before .before .before in
-    omega (arith, reserved (bare (s .args .f)), s .pre .0 .total-le, s .pre .1 .skip-is, s .pre .1 .dual-is, c .before .back-of .ensures .1, c .back-of2 .ensures .1)
+    omega (
+      arith,
+      reserved (bare (s .args .f)),
+      s .pre .0 .total-le,
+      s .pre .1 .skip-is,
+      s .pre .1 .dual-is,
+      c .before .back-of .ensures .1,
+      c .back-of2 .ensures .1,
+    )
 
 returns : tie.Need-returns
 unfolding leftOf dualAsked

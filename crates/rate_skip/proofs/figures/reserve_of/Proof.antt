@@ -1,4 +1,4 @@
--- `rate_skip::figures::reserve_of`: by the test. Assumes nothing.
+-- `rate_skip::figures::reserve_of`: by whether anything is reserved. Assumes nothing.
 use borrow.Author.Tests.{eq-eqb, ne-eqb}
 use borrow.Author.Needs.{needs}
 use Rattle.rate_skip.proofs.figures.reserve_of.Statement.{statement}

@@ -28,20 +28,20 @@ mul-m c = omega (arith, share c)
 add-result : tie.Need-add-result
 add-result c = omega (arith, share c)
 
-rem-less : tie.Need-rem-less
-rem-less c = search needs
+rem-saturating-sub : tie.Need-rem-saturating-sub
+rem-saturating-sub c = search needs
 
-sub-less : tie.Need-sub-less
-sub-less c = search needs
+sub-saturating-sub : tie.Need-sub-saturating-sub
+sub-saturating-sub c = search needs
 
-less-requires : tie.Need-less-requires
-less-requires c κs = search needs
+saturating-sub-requires : tie.Need-saturating-sub-requires
+saturating-sub-requires c κs = search needs
 
 add-result-2 : tie.Need-add-result-2
-add-result-2 c = omega (arith, share (c .before), c .less .ensures)
+add-result-2 c = omega (arith, share (c .before), c .saturating-sub .ensures)
 
 returns : tie.Need-returns
-returns c = (rw (c .less .ensures), omega (arith, share (c .before), c .less .ensures))
+returns c = (rw (c .saturating-sub .ensures), omega (arith, share (c .before), c .saturating-sub .ensures))
 
 pub top-of-spec : {M : Type 1} → statement M
 top-of-spec =
@@ -52,8 +52,8 @@ top-of-spec =
     sub-m
     mul-m
     add-result
-    rem-less
-    sub-less
-    less-requires
+    rem-saturating-sub
+    sub-saturating-sub
+    saturating-sub-requires
     add-result-2
     returns)

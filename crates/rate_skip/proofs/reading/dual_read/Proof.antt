@@ -1,6 +1,6 @@
--- `rate_skip::reading::dual_read`: the test is the definition's. Assumes nothing.
-use Rattle.rate_def.specs.Alloc.{askDual, dualAsked}
-use Rattle.rate_def.specs.Answers.{reading}
+-- `rate_skip::reading::dual_read`: the test of what is reserved and of intensity is the definition's. Assumes nothing.
+use Rattle.rate_spec.specs.Alloc.{askDual, dualAsked}
+use Rattle.rate_spec.specs.Answers.{decoderAsk}
 use borrow.Author.Needs.{needs}
 use Rattle.rate_skip.proofs.reading.dual_read.Statement.{statement}
 use Rattle.rate_skip.proofs.reading.dual_read.Tie as tie
@@ -9,7 +9,7 @@ bit-read-requires : tie.Need-bit-read-requires
 bit-read-requires c κs = search needs
 
 returns : tie.Need-returns
-unfolding askDual dualAsked reading
+unfolding askDual dualAsked decoderAsk
 returns c = rw (← c .before .before .before .pre .0) (c .bit-read .ensures)
 
 pub dual-read-spec : {M : Type 1} → statement M

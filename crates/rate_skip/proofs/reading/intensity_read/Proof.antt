@@ -4,17 +4,17 @@ use mathlib.Core.Path.{_≡_, ap}
 use native.Mathlib.Omega.{arith}
 use native.Mathlib.Nat.{pos-of-ne-zero}
 use borrow.Author.Tests.{le-ltb, lt-ltb}
-use Rattle.entdec.specs.declared.Read.{Read}
+use Rattle.entdec.specs.declared.ReadSymbol.{ReadSymbol}
 use Rattle.entdec.proofs.Values.{uint-value}
-use Rattle.rate_def.specs.Alloc.{askIntensity}
-use Rattle.rate_def.specs.Answers.{reading}
+use Rattle.rate_spec.specs.Alloc.{askIntensity}
+use Rattle.rate_spec.specs.Answers.{decoderAsk}
 use Rattle.rate_skip.proofs.Following.{below-read, read-less}
 use borrow.Author.Needs.{needs}
 use Rattle.rate_skip.proofs.reading.intensity_read.Statement.{statement}
 use Rattle.rate_skip.proofs.reading.intensity_read.Tie as tie
 
 returns : tie.Need-returns
-unfolding askIntensity reading
+unfolding askIntensity decoderAsk
 returns c =
     let s = c .before .before in
     let h : s .args .reserve ≤ 0 = omega arith in
@@ -39,7 +39,7 @@ add-t11 : tie.Need-add-t11
 add-t11 c = search needs
 
 returns-2 : tie.Need-returns-2
-unfolding askIntensity reading
+unfolding askIntensity decoderAsk
 returns-2 c =
     let s = c .before .before .before .before .before in
     let a = s .args in
@@ -47,7 +47,7 @@ returns-2 c =
     let n : ℕ = a .coded + 1 - a .f .start in
     let e : suc (a .coded) - a .f .start ≡ n = omega arith in (
       rw (lt-ltb 0 (a .reserve) (pos-of-ne-zero (c .before .before .before .if1 .left)), e, q),
-      omega (arith, ap (λ (y : Read). y .value) q, uint-value n (a .s .now) (a .d) (omega arith)),
+      omega (arith, ap (λ (y : ReadSymbol). y .value) q, uint-value n (a .s .now) (a .d) (omega arith)),
       rw q (below-read 1 n (a .s .now) (a .d) (omega arith) (omega arith) (s .pre .3)),
     )
 

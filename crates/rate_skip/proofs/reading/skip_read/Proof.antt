@@ -6,11 +6,11 @@ use native.Mathlib.Omega.{arith}
 use lib.ListN.{length, getD, length-set}
 use Rattle.entdec.specs.Ready.{Ready}
 use Rattle.modes.specs.Edges.{edge}
-use Rattle.rate_def.specs.Answers.{reading}
-use Rattle.rate_def.specs.Skips.{skip}
-use Rattle.rate_bands.specs.Frame.{bare}
+use Rattle.rate_spec.specs.Answers.{decoderAsk}
+use Rattle.rate_spec.specs.Skips.{skip}
+use Rattle.rate_bands.specs.Inputs.{bare}
 use Rattle.rate_skip.specs.Asks.{readAsk}
-use Rattle.rate_skip.specs.Turns.{ending, keptOf, standing}
+use Rattle.rate_skip.specs.Rounds.{skipEnding, keptOf, roundOf}
 use Rattle.rate_skip.proofs.Following.{flag-read, read-less}
 use Rattle.rate_skip.proofs.Going.{Going, going-done, going-first, going-on, going-stops, kept-next, kept-none, round-in}
 use Rattle.rate_skip.proofs.reading.skip_read.Statement.{statement}
@@ -19,8 +19,8 @@ use Rattle.rate_skip.proofs.reading.skip_read.Tie as tie
 abbrev Inv-loop : tie.InvT-loop
 Inv-loop f bits low left reserve s kept₀ first coded₀ hi₀ rest₀ held₀ at₀ kept coded hi rest held at =
     (coded ≤ f .end) × (hi ≡ edge coded) × (length kept ≡ length kept₀) × Ready (coded - suc low + 2) at
-    × Going f bits (readAsk s) low (ending (skip (bare f) (λ j. getD bits j 0) (readAsk s) (f .end - suc low) (standing (f .end) left reserve []) at₀))
-    (standing coded rest held (keptOf (f .end) coded kept)) at
+    × Going f bits (readAsk s) low (skipEnding (skip (bare f) (λ j. getD bits j 0) (readAsk s) (f .end - suc low) (roundOf (f .end) left reserve []) at₀))
+    (roundOf coded rest held (keptOf (f .end) coded kept)) at
 
 abbrev μ-loop : tie.MeasureT-loop
 μ-loop f bits low left reserve s kept₀ first coded₀ hi₀ rest₀ held₀ at₀ kept coded hi rest held at = coded
@@ -71,14 +71,15 @@ same-length : tie.Need-same-length Inv-loop μ-loop
 same-length c = c .before .before .before .before .before .before .loop .inv .2
 
 returns : tie.Need-returns Inv-loop μ-loop
-unfolding reading
+unfolding decoderAsk
 returns c =
     let x = c .before .before in
     let l = x .before .before .before .before in
     let z = l .before .before .before .before .before in
     let m : z .args .low + 1 < l .loop .coded = omega (arith, x .before .before .before) in
     let e : l .loop .coded - suc (z .args .low) + 2 ≡ suc (l .loop .coded - 1 - suc (z .args .low) + 2) = omega arith in
-    let k = flag-read (l .loop .coded - 1 - suc (z .args .low) + 2) (x .before .round-of .result .asked) (z .args .s .now) (l .loop .at) (x .bit-read .ensures) (rw e at (l .loop .inv .3)) in
+    let k = flag-read (l .loop .coded - 1 - suc (z .args .low) + 2) (x .before .round-of .result .asked) (z .args .s .now) (l .loop .at) (x .bit-read .ensures)
+    (rw e at (l .loop .inv .3)) in
     (going-stops _ _ _ _ (l .loop .inv .4) m (x .before .round-of .ensures) (x .bit-read .ensures) (c .if1 .taken), read-less 2 _ _ (omega arith) k)
 
 mul-kept : tie.Need-mul-kept Inv-loop μ-loop
@@ -87,13 +88,20 @@ mul-kept c = omega arith
 slice-write-kept : tie.Need-slice-write-kept Inv-loop μ-loop
 slice-write-kept c =
     let l = c .before .before .before .before .before .before in
-    omega (arith, l .loop .inv .0, l .loop .inv .2, l .before .before .before .before .before .pre .2, l .before .before .before .before .before .pre .0 .frame .end-le, c .before .before .before .before .before)
+    omega (
+      arith,
+      l .loop .inv .0,
+      l .loop .inv .2,
+      l .before .before .before .before .before .pre .2,
+      l .before .before .before .before .before .pre .0 .frame .end-le,
+      c .before .before .before .before .before,
+    )
 
 loop-less : tie.Need-loop-less Inv-loop μ-loop
 loop-less c = omega (arith, c .before .before .before .before .before)
 
 loop-again : tie.Need-loop-again Inv-loop μ-loop
-unfolding reading
+unfolding decoderAsk
 loop-again c =
     let x = c .before .before in
     let y = x .before .round-of in
@@ -105,8 +113,10 @@ loop-again c =
       omega (arith, v .0),
       x .before .before .edge-of3 .ensures .0,
       length-set (l .loop .kept) (l .loop .coded - 1) (y .result .keep) ∙ v .2,
-      flag-read (l .loop .coded - 1 - suc (z .args .low) + 2) (x .before .round-of .result .asked) (z .args .s .now) (l .loop .at) (x .bit-read .ensures) (rw e at (v .3)),
-      rw (kept-next (z .args .f .end) (l .loop .coded) (y .result .keep) (l .loop .kept) (omega arith) (v .0) (omega (arith, v .0, v .2, z .pre .2, z .pre .0 .frame .end-le)))
+      flag-read (l .loop .coded - 1 - suc (z .args .low) + 2) (x .before .round-of .result .asked) (z .args .s .now) (l .loop .at) (x .bit-read .ensures)
+          (rw e at (v .3)),
+      rw (kept-next (z .args .f .end) (l .loop .coded) (y .result .keep) (l .loop .kept) (omega arith) (v .0)
+          (omega (arith, v .0, v .2, z .pre .2, z .pre .0 .frame .end-le)))
           (going-on _ _ _ _ (v .4) m (y .ensures) (x .bit-read .ensures) (c .if1 .left)),
     )
 

@@ -15,13 +15,15 @@ same-length : tie.Need-same-length
 same-length c = search needs
 
 returns : tie.Need-returns
-returns c = rw (c .before .before .before .before .before .if1 .taken, c .before .before .before .before .if2 .taken) (paired true (c .before .before .put-bit .ensures))
+returns c = rw (c .before .before .before .before .before .if1 .taken, c .before .before .before .before .if2 .taken)
+    (paired true (c .before .before .put-bit .ensures))
 
 same-length-2 : tie.Need-same-length-2
 same-length-2 c = search needs
 
 returns-2 : tie.Need-returns-2
-returns-2 c = rw (c .before .before .before .before .before .if1 .taken, c .before .before .before .before .if2 .left) (paired false (c .before .before .put-bit2 .ensures))
+returns-2 c = rw (c .before .before .before .before .before .if1 .taken, c .before .before .before .before .if2 .left)
+    (paired false (c .before .before .put-bit2 .ensures))
 
 returns-3 : tie.Need-returns-3
 returns-3 c = rw (c .if1 .left)

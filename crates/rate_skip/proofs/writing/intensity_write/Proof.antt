@@ -5,15 +5,15 @@ use native.Mathlib.Omega.{arith}
 use native.Mathlib.Nat.{pos-of-ne-zero}
 use borrow.Author.Tests.{le-ltb, lt-ltb}
 use Rattle.entenc.specs.Write.{wr}
-use Rattle.rate_def.specs.Alloc.{askIntensity}
-use Rattle.rate_def.specs.Answers.{writing}
+use Rattle.rate_spec.specs.Alloc.{askIntensity}
+use Rattle.rate_spec.specs.Answers.{encoderAsk}
 use Rattle.rate_skip.proofs.Following.{below-write, paired, write-less}
 use borrow.Author.Needs.{needs}
 use Rattle.rate_skip.proofs.writing.intensity_write.Statement.{statement}
 use Rattle.rate_skip.proofs.writing.intensity_write.Tie as tie
 
 returns : tie.Need-returns
-unfolding askIntensity writing
+unfolding askIntensity encoderAsk
 returns c =
     let s = c .before .before in
     let h : s .args .reserve ≤ 0 = omega arith in
@@ -44,7 +44,7 @@ same-length : tie.Need-same-length
 same-length c = search needs
 
 returns-2 : tie.Need-returns-2
-unfolding askIntensity writing
+unfolding askIntensity encoderAsk
 returns-2 c =
     let p = c .before .before in
     let v = p .before .before .written-of in

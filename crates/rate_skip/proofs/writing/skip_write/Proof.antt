@@ -12,11 +12,11 @@ use Rattle.entenc.specs.Ready.{Ready}
 use Rattle.entenc.specs.Write.{wr}
 use Rattle.modes.specs.Edges.{edge}
 use Rattle.modes.proofs.EdgeRule.{edge-le}
-use Rattle.rate_def.specs.Answers.{writing}
-use Rattle.rate_def.specs.Skips.{skip}
-use Rattle.rate_bands.specs.Frame.{bare}
+use Rattle.rate_spec.specs.Answers.{encoderAsk}
+use Rattle.rate_spec.specs.Skips.{skip}
+use Rattle.rate_bands.specs.Inputs.{bare}
 use Rattle.rate_skip.specs.Asks.{writeAsk}
-use Rattle.rate_skip.specs.Turns.{ending, keptOf, standing}
+use Rattle.rate_skip.specs.Rounds.{skipEnding, keptOf, roundOf}
 use Rattle.rate_skip.proofs.Figured.{width-is}
 use Rattle.rate_skip.proofs.Following.{flag-write, write-less}
 use Rattle.rate_skip.proofs.Going.{Going, going-done, going-first, going-on, going-stops, kept-next, kept-none, round-in}
@@ -27,8 +27,9 @@ abbrev Inv-loop : tie.InvT-loop
 Inv-loop f bits low left reserve previous bandwidth buf₀ kept₀ first coded₀ hi₀ rest₀ held₀ at₀ buf kept coded hi rest held at =
     (coded ≤ f .end) × (hi ≡ edge coded) × (length kept ≡ length kept₀) × (length buf ≡ length buf₀) × Ready (coded - suc low + 2) (wr at buf)
     × Going f bits (writeAsk (bare f) (toZ w32 previous) (toZ w32 bandwidth) 0 false) low
-    (ending (skip (bare f) (λ j. getD bits j 0) (writeAsk (bare f) (toZ w32 previous) (toZ w32 bandwidth) 0 false) (f .end - suc low) (standing (f .end) left reserve []) (wr at₀ buf₀)))
-    (standing coded rest held (keptOf (f .end) coded kept)) (wr at buf)
+    (skipEnding (skip (bare f) (λ j. getD bits j 0) (writeAsk (bare f) (toZ w32 previous) (toZ w32 bandwidth) 0 false) (f .end - suc low)
+    (roundOf (f .end) left reserve []) (wr at₀ buf₀)))
+    (roundOf coded rest held (keptOf (f .end) coded kept)) (wr at buf)
 
 abbrev μ-loop : tie.MeasureT-loop
 μ-loop f bits low left reserve previous bandwidth buf₀ kept₀ first coded₀ hi₀ rest₀ held₀ at₀ buf kept coded hi rest held at = coded
@@ -51,7 +52,8 @@ loop-holds c =
       refl,
       write-less (a .f .end - suc (a .low) + 2) 22 s (omega (arith, p .0 .frame .end-le)) (p .1),
       rw (kept-none (a .f .end) (a .kept .now))
-          (going-first (a .f) (a .bits .now) (writeAsk (bare (a .f)) (toZ w32 (ofZ w32 (a .previous))) (toZ w32 (ofZ w32 (a .bandwidth))) 0 false) (a .low) (a .left) (a .reserve) s (p .0)),
+          (going-first (a .f) (a .bits .now) (writeAsk (bare (a .f)) (toZ w32 (ofZ w32 (a .previous))) (toZ w32 (ofZ w32 (a .bandwidth))) 0 false) (a .low)
+          (a .left) (a .reserve) s (p .0)),
     )
 
 add-loop : tie.Need-add-loop Inv-loop μ-loop
@@ -97,10 +99,12 @@ same-length c =
     x .flag-write .kept .1 .1 .1 .1 .1 .1 .1 .1 .0 ∙ x .before .before .before .before .before .loop .inv .3
 
 same-length-2 : tie.Need-same-length-2 Inv-loop μ-loop
-same-length-2 c = c .before .before .before .before .before .before .before .before .before .loop .inv .2
+same-length-2 c =
+    let at-loop = c .before .before .before .before .before .before .before .before .before in
+    at-loop .loop .inv .2
 
 returns : tie.Need-returns Inv-loop μ-loop
-unfolding writing
+unfolding encoderAsk
 returns c =
     let x = c .before .before .before .before in
     let y = x .before .before .round-of in
@@ -109,8 +113,11 @@ returns c =
     let m : z .args .low + 1 < l .loop .coded = omega (arith, x .before .before .before .before) in
     let e : l .loop .coded - suc (z .args .low) + 2 ≡ suc (l .loop .coded - 1 - suc (z .args .low) + 2) = omega arith in
     let q = x .flag-write .ensures in
-    let k = flag-write (l .loop .coded - 1 - suc (z .args .low) + 2) (y .result .asked) _ (wr (l .loop .at) (l .loop .buf)) q (rw e at (l .loop .inv .4)) in
-    (rw (toZ-ofZ (z .fits .previous), toZ-ofZ (z .fits .bandwidth)) at (going-stops _ _ _ _ (l .loop .inv .5) m (y .ensures) q (c .if1 .taken)), write-less 2 _ _ (omega arith) k)
+    let k = flag-write (l .loop .coded - 1 - suc (z .args .low) + 2) (y .result .asked) _ (wr (l .loop .at) (l .loop .buf)) q (rw e at (l .loop .inv .4)) in (
+      rw (toZ-ofZ (z .fits .previous), toZ-ofZ (z .fits .bandwidth)) at (going-stops _ _ _ _ (l .loop .inv .5) m (y .ensures) q (c .if1 .taken)),
+      write-less 2 _
+          _ (omega arith) k,
+    )
 
 mul-kept : tie.Need-mul-kept Inv-loop μ-loop
 mul-kept c = omega arith
@@ -123,10 +130,12 @@ slice-write-kept c =
     omega (arith, l .loop .inv .0, l .loop .inv .2, z .pre .2, z .pre .0 .frame .end-le, x .before .before .before .before)
 
 loop-less : tie.Need-loop-less Inv-loop μ-loop
-loop-less c = omega (arith, c .before .before .before .before .before .before .before .before)
+loop-less c =
+    let here = c .before .before .before .before .before .before .before .before in
+    omega (arith, here)
 
 loop-again : tie.Need-loop-again Inv-loop μ-loop
-unfolding writing
+unfolding encoderAsk
 loop-again c =
     let x = c .before .before .before .before in
     let y = x .before .before .round-of in
@@ -141,7 +150,8 @@ loop-again c =
       length-set (l .loop .kept) (l .loop .coded - 1) (y .result .keep) ∙ v .2,
       x .flag-write .kept .1 .1 .1 .1 .1 .1 .1 .1 .0 ∙ v .3,
       flag-write (l .loop .coded - 1 - suc (z .args .low) + 2) (y .result .asked) _ (wr (l .loop .at) (l .loop .buf)) q (rw e at (v .4)),
-      rw (kept-next (z .args .f .end) (l .loop .coded) (y .result .keep) (l .loop .kept) (omega arith) (v .0) (omega (arith, v .0, v .2, z .pre .2, z .pre .0 .frame .end-le)))
+      rw (kept-next (z .args .f .end) (l .loop .coded) (y .result .keep) (l .loop .kept) (omega arith) (v .0)
+          (omega (arith, v .0, v .2, z .pre .2, z .pre .0 .frame .end-le)))
           (going-on _ _ _ _ (v .5) m (y .ensures) q (c .if1 .left)),
     )
 
@@ -155,8 +165,11 @@ returns-2 : tie.Need-returns-2 Inv-loop μ-loop
 returns-2 c =
     let l = c .before in
     let z = l .before .before .before .before .before in
-    let v = l .loop .inv in
-    (rw (toZ-ofZ (z .fits .previous), toZ-ofZ (z .fits .bandwidth)) at (going-done _ _ _ _ (v .5) (omega (arith, c))), write-less 2 (l .loop .coded - suc (z .args .low) + 2) (wr (l .loop .at) (l .loop .buf)) (omega arith) (v .4))
+    let v = l .loop .inv in (
+      rw (toZ-ofZ (z .fits .previous), toZ-ofZ (z .fits .bandwidth)) at (going-done _ _ _ _ (v .5) (omega (arith, c))),
+      write-less 2
+          (l .loop .coded - suc (z .args .low) + 2) (wr (l .loop .at) (l .loop .buf)) (omega arith) (v .4),
+    )
 
 pub skip-write-spec : {M : Type 1} → statement M
 skip-write-spec =

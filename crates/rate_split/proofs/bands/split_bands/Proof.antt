@@ -2,7 +2,7 @@
 use mathlib.Core.Path.{ap}
 use native.Mathlib.Omega.{arith}
 use lib.IntN.{pos}
-use Rattle.rate_def.specs.Asked.{Band}
+use Rattle.rate_spec.specs.Types.{Band}
 use Rattle.rate_split.proofs.Fills.{coded-is, fill-parts, skipped-is}
 use borrow.Author.Needs.{needs}
 use Rattle.rate_split.proofs.bands.split_bands.Statement.{statement}
@@ -34,16 +34,22 @@ returns c =
     let s = k .split-skipped .ensures in (
       e .0,
       fill-parts _ _ _ (a .f .start) (a .coded) (a .f .end) (a .pulses .now) (omega arith) (omega arith)
-          (λ i p. ap (λ (b : Band). pos (b .pulses)) (coded-is (a .f) (a .caps .now) (a .bits .now) (a .coded) (a .left) (a .intensity) (a .dual) (a .kept .now) i p))
-          (λ i p q. ap (λ (b : Band). pos (b .pulses)) (skipped-is (a .f) (a .caps .now) (a .bits .now) (a .coded) (a .left) (a .intensity) (a .dual) (a .kept .now) i p q))
+          (λ i p. ap (λ (b : Band). pos (b .pulses)) (coded-is (a .f) (a .caps .now) (a .bits .now) (a .coded) (a .left) (a .intensity) (a .dual) (a .kept .now)
+          i p))
+          (λ i p q. ap (λ (b : Band). pos (b .pulses)) (skipped-is (a .f) (a .caps .now) (a .bits .now) (a .coded) (a .left) (a .intensity) (a .dual)
+          (a .kept .now) i p q))
           (e .1) (s .0),
       fill-parts _ _ _ (a .f .start) (a .coded) (a .f .end) (a .fine .now) (omega arith) (omega arith)
-          (λ i p. ap (λ (b : Band). pos (b .fine)) (coded-is (a .f) (a .caps .now) (a .bits .now) (a .coded) (a .left) (a .intensity) (a .dual) (a .kept .now) i p))
-          (λ i p q. ap (λ (b : Band). pos (b .fine)) (skipped-is (a .f) (a .caps .now) (a .bits .now) (a .coded) (a .left) (a .intensity) (a .dual) (a .kept .now) i p q))
+          (λ i p. ap (λ (b : Band). pos (b .fine)) (coded-is (a .f) (a .caps .now) (a .bits .now) (a .coded) (a .left) (a .intensity) (a .dual) (a .kept .now) i
+          p))
+          (λ i p q. ap (λ (b : Band). pos (b .fine)) (skipped-is (a .f) (a .caps .now) (a .bits .now) (a .coded) (a .left) (a .intensity) (a .dual)
+          (a .kept .now) i p q))
           (e .2) (s .1),
       fill-parts _ _ _ (a .f .start) (a .coded) (a .f .end) (a .prios .now) (omega arith) (omega arith)
-          (λ i p. ap (λ (b : Band). pos (b .prio)) (coded-is (a .f) (a .caps .now) (a .bits .now) (a .coded) (a .left) (a .intensity) (a .dual) (a .kept .now) i p))
-          (λ i p q. ap (λ (b : Band). pos (b .prio)) (skipped-is (a .f) (a .caps .now) (a .bits .now) (a .coded) (a .left) (a .intensity) (a .dual) (a .kept .now) i p q))
+          (λ i p. ap (λ (b : Band). pos (b .prio)) (coded-is (a .f) (a .caps .now) (a .bits .now) (a .coded) (a .left) (a .intensity) (a .dual) (a .kept .now) i
+          p))
+          (λ i p q. ap (λ (b : Band). pos (b .prio)) (skipped-is (a .f) (a .caps .now) (a .bits .now) (a .coded) (a .left) (a .intensity) (a .dual)
+          (a .kept .now) i p q))
           (e .3) (s .2),
     )
 

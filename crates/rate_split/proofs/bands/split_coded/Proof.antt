@@ -6,11 +6,11 @@ use lib.IntN.{pos}
 use Rattle.laws.specs.Lists.{fill}
 use Rattle.laws.proofs.Lists.{fill-none, fill-up}
 use Rattle.modes.specs.Edges.{edge}
-use Rattle.rate_def.specs.Asked.{Band}
+use Rattle.rate_spec.specs.Types.{Band}
 use Rattle.rate_split.specs.declared.Share.{Share}
 use Rattle.rate_split.specs.Bands.{carriedAt, codedAt}
-use Rattle.rate_split.proofs.Turns.{Turned, above-first, carried-none, turned, within}
-use Rattle.rate_split.proofs.Fills.{filled-length}
+use Rattle.rate_split.proofs.CodedBands.{CodedPart, above-first, carried-none, coded-part, within}
+use Rattle.rate_bands.proofs.Listed.{filled-length}
 use borrow.Author.Needs.{needs}
 use Rattle.rate_split.proofs.bands.split_coded.Statement.{statement}
 use Rattle.rate_split.proofs.bands.split_coded.Tie as tie
@@ -25,16 +25,16 @@ Inv-loop f caps bits coded left intensity dual pulses₀ fine₀ prios₀ start 
 abbrev μ-loop : tie.MeasureT-loop
 μ-loop f caps bits coded left intensity dual pulses₀ fine₀ prios₀ start g lo₀ balance₀ j₀ pulses fine prios lo balance j = coded - j
 
--- what part_of has made, at the loop's turn
-turned-at : (c : tie.After-part-of Inv-loop μ-loop) →
+-- what part_of gives for the loop's band is that band's part
+part-at : (c : tie.After-part-of Inv-loop μ-loop) →
     let l = c .before .before .before .before .before in
     let a = l .before .before .args in
-    Turned (a .f) (a .caps .now) (a .bits .now) (a .coded) (a .left) (a .intensity) (a .dual) (l .loop .j) (c .part-of .result)
-turned-at c =
+    CodedPart (a .f) (a .caps .now) (a .bits .now) (a .coded) (a .left) (a .intensity) (a .dual) (l .loop .j) (c .part-of .result)
+part-at c =
     let l = c .before .before .before .before .before in
     let a = l .before .before .args in
     let v = l .loop .inv in
-    turned (a .f) (a .caps .now) (a .bits .now) (a .coded) (a .left) (a .intensity) (a .dual) (l .before .before .pre .0) (l .loop .j) (v .0) (omega arith)
+    coded-part (a .f) (a .caps .now) (a .bits .now) (a .coded) (a .left) (a .intensity) (a .dual) (l .before .before .pre .0) (l .loop .j) (v .0) (omega arith)
     (l .before .share-of .ensures) (v .2) (c .before .before .before .edge-of .ensures .0) (v .3) (c .part-of .ensures .0)
 
 share-of-requires : tie.Need-share-of-requires Inv-loop μ-loop
@@ -82,16 +82,22 @@ part-of-requires c κs =
       omega (arith, o .frame),
       v .2,
       h,
-      above-first (a .f) (a .caps .now) (a .bits .now) (a .coded) (a .left) (a .intensity) (a .dual) o (l .loop .j) (v .0) k (l .before .share-of .ensures) (v .2) h (v .3),
-      within (a .f) (a .caps .now) (a .bits .now) (a .coded) (a .left) (a .intensity) (a .dual) o (l .loop .j) (v .0) k (l .before .share-of .ensures) (v .2) h (v .3),
+      above-first (a .f) (a .caps .now) (a .bits .now) (a .coded) (a .left) (a .intensity) (a .dual) o (l .loop .j) (v .0) k (l .before .share-of .ensures)
+          (v .2) h (v .3),
+      within (a .f) (a .caps .now) (a .bits .now) (a .coded) (a .left) (a .intensity) (a .dual) o (l .loop .j) (v .0) k (l .before .share-of .ensures) (v .2) h
+          (v .3),
     )
 
 store-requires : tie.Need-store-requires Inv-loop μ-loop
 store-requires c κs =
-    let t = turned-at (c .before .before .before) in
-    let l = c .before .before .before .before .before .before .before .before in (
+    let l = c .before .before .before .before .before .before .before .before in
+    let t = part-at (c .before .before .before) in (
       (omega (arith, t .pulses-le), omega (arith, t .fine-le), omega (arith, c .before .before .before .part-of .ensures .1)),
-      (omega (arith, filled-length _ _ _ _ (l .loop .inv .4)), omega (arith, filled-length _ _ _ _ (l .loop .inv .5)), omega (arith, filled-length _ _ _ _ (l .loop .inv .6))),
+      (
+        omega (arith, filled-length _ _ _ _ (l .loop .inv .4)),
+        omega (arith, filled-length _ _ _ _ (l .loop .inv .5)),
+        omega (arith, filled-length _ _ _ _ (l .loop .inv .6)),
+      ),
     )
 
 add-j : tie.Need-add-j Inv-loop μ-loop
@@ -102,12 +108,13 @@ loop-less c = omega arith
 
 loop-again : tie.Need-loop-again Inv-loop μ-loop
 loop-again c =
-    let t = turned-at (c .before .before .before .before .before .before .before) in
-    let l = c .before .before .before .before .before .before .before .before .before .before .before .before in
+    let here = c .before .before .before .before .before .before .before in
+    let u = here .before .before .before in
+    let l = u .before .before in
+    let t = part-at here in
     let a = l .before .before .args in
     let v = l .loop .inv in
-    let s = c .before .before .before .store .ensures in
-    let u = c .before .before .before .before .before .before .before .before .before .before in (
+    let s = c .before .before .before .store .ensures in (
       omega (arith, v .0),
       omega (arith, u .before),
       u .edge-of .ensures .0,

@@ -6,9 +6,10 @@ use lib.IntN.{pos}
 use lib.ListN.{getD}
 use Rattle.laws.specs.Lists.{fill}
 use Rattle.laws.proofs.Lists.{fill-none, fill-up}
-use Rattle.rate_def.specs.Asked.{Band}
-use Rattle.rate_split.specs.Bands.{skippedAt}
-use Rattle.rate_split.proofs.Fills.{filled-length}
+use Rattle.rate_spec.specs.Types.{Band}
+use Rattle.rate_spec.specs.Alloc.{skipped}
+use Rattle.rate_bands.specs.Inputs.{bare}
+use Rattle.rate_bands.proofs.Listed.{filled-length}
 use borrow.Author.Needs.{needs}
 use Rattle.rate_split.proofs.bands.split_skipped.Statement.{statement}
 use Rattle.rate_split.proofs.bands.split_skipped.Tie as tie
@@ -16,9 +17,9 @@ use Rattle.rate_split.proofs.bands.split_skipped.Tie as tie
 abbrev Inv-loop : tie.InvT-loop
 Inv-loop f coded kept pulses₀ fine₀ prios₀ end j₀ pulses fine prios j =
     (coded ≤ j) × (j ≤ f .end)
-    × (pulses ≡ fill (λ i. pos (skippedAt (f .c) (getD kept i 0) .pulses)) coded (j - coded) pulses₀)
-    × (fine ≡ fill (λ i. pos (skippedAt (f .c) (getD kept i 0) .fine)) coded (j - coded) fine₀)
-    × (prios ≡ fill (λ i. pos (skippedAt (f .c) (getD kept i 0) .prio)) coded (j - coded) prios₀)
+    × (pulses ≡ fill (λ i. pos (skipped (bare f) (getD kept i 0) .pulses)) coded (j - coded) pulses₀)
+    × (fine ≡ fill (λ i. pos (skipped (bare f) (getD kept i 0) .fine)) coded (j - coded) fine₀)
+    × (prios ≡ fill (λ i. pos (skipped (bare f) (getD kept i 0) .prio)) coded (j - coded) prios₀)
 
 abbrev μ-loop : tie.MeasureT-loop
 μ-loop f coded kept pulses₀ fine₀ prios₀ end j₀ pulses fine prios j = f .end - j
@@ -35,14 +36,18 @@ element-copy-out-skipped-of : tie.Need-element-copy-out-skipped-of Inv-loop μ-l
 element-copy-out-skipped-of c = search needs
 
 skipped-of-requires : tie.Need-skipped-of-requires Inv-loop μ-loop
-skipped-of-requires c κs = omega (arith, c .before .before .before .pre .0)
+skipped-of-requires c κs = c .before .before .before .pre .0 .0
 
 store-requires : tie.Need-store-requires Inv-loop μ-loop
 store-requires c κs =
     let e = c .before .before .before .skipped-of .ensures in
     let l = c .before .before .before .before .before .before in (
-      (omega (arith, ap (λ (b : Band). b .pulses) (e .0)), e .1, omega (arith, e .2)),
-      (omega (arith, filled-length _ _ _ _ (l .loop .inv .2)), omega (arith, filled-length _ _ _ _ (l .loop .inv .3)), omega (arith, filled-length _ _ _ _ (l .loop .inv .4))),
+      (omega (arith, e .1), e .2, omega (arith, e .3)),
+      (
+        omega (arith, filled-length _ _ _ _ (l .loop .inv .2)),
+        omega (arith, filled-length _ _ _ _ (l .loop .inv .3)),
+        omega (arith, filled-length _ _ _ _ (l .loop .inv .4)),
+      ),
     )
 
 add-j : tie.Need-add-j Inv-loop μ-loop
@@ -53,8 +58,9 @@ loop-less c = omega arith
 
 loop-again : tie.Need-loop-again Inv-loop μ-loop
 loop-again c =
-    let e = c .before .before .before .before .before .before .before .skipped-of .ensures in
-    let l = c .before .before .before .before .before .before .before .before .before .before in
+    let at-skipped-of = c .before .before .before .before .before .before .before in
+    let l = at-skipped-of .before .before .before in
+    let e = at-skipped-of .skipped-of .ensures in
     let a = l .before .args in
     let v = l .loop .inv in
     let s = c .before .before .before .store .ensures in (

@@ -1,4 +1,4 @@
--- `rate_split::bands::store`: three stores. Assumes nothing.
+-- `rate_split::bands::store`: each list is written once, at j. Assumes nothing.
 use mathlib.Core.Path.{ap, _∙_}
 use lib.ListN.{set}
 use mir.Facts.{toZ-ofZ}

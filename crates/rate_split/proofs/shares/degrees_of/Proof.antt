@@ -1,4 +1,4 @@
--- `rate_split::shares::degrees_of`: by the test. Assumes nothing.
+-- `rate_split::shares::degrees_of`: by whether the band has the one parameter more. Assumes nothing.
 use Prim.Native.Nat.{_*_, _≤_}
 use native.Mathlib.Nat.{mul-le-mul}
 use native.Mathlib.Omega.{arith}

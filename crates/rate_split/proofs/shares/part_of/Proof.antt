@@ -1,4 +1,4 @@
--- `rate_split::shares::part_of`: the steps put together. Assumes nothing.
+-- `rate_split::shares::part_of`: the band's sizes are within bounds, so the split's contract applies. Assumes nothing.
 use Prim.Native.Nat.{_+_, _-_, _*_, _^_, _≤_}
 use native.Mathlib.Nat.{mul-le-mul}
 use native.Mathlib.Numerals.{add-one}
@@ -60,7 +60,8 @@ split-of-requires c κs = search needs
 returns : tie.Need-returns
 returns c =
     let d = c .before .before .before in (
-      rw (← d .before .before .pow2 .ensures, ← d .before .degrees-of .ensures .0, ← d .log-width-of .ensures .0, ← c .before .spread-of .ensures) (c .split-of .ensures .0),
+      rw (← d .before .before .pow2 .ensures, ← d .before .degrees-of .ensures .0, ← d .log-width-of .ensures .0, ← c .before .spread-of .ensures)
+          (c .split-of .ensures .0),
       c .split-of .ensures .1,
     )
 

@@ -1,4 +1,4 @@
--- `rate_split::split::base_of`: one formula by cases. Assumes nothing.
+-- `rate_split::split::base_of`: by whether the band has two coefficients; the products fit 32 bits. Assumes nothing.
 use Prim.Native.Nat.{_*_, _≤_}
 use native.Mathlib.Nat.{mul-le-mul}
 use native.Mathlib.Omega.{arith}

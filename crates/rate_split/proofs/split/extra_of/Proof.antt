@@ -1,8 +1,8 @@
--- `rate_split::split::extra_of`: what is bought is paid for. Assumes nothing.
+-- `rate_split::split::extra_of`: the excess pays for what it buys, since a quotient times its divisor is no more than what is divided. Assumes nothing.
 use Prim.Native.Nat.{_-_, _*_, _/_}
 use native.Mathlib.Nat.{min-le-left, min-le-right, mul-le-mul-left, mul-div-le, le-trans}
 use native.Mathlib.Omega.{arith}
-use Rattle.rate_def.specs.Split.{extra}
+use Rattle.rate_spec.specs.Split.{extra}
 use borrow.Author.Needs.{needs}
 use Rattle.rate_split.proofs.split.extra_of.Statement.{statement}
 use Rattle.rate_split.proofs.split.extra_of.Tie as tie

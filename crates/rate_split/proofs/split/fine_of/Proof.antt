@@ -1,4 +1,4 @@
--- `rate_split::split::fine_of`: by the test. Assumes nothing.
+-- `rate_split::split::fine_of`: by whether the bits pay for the fine bits asked for. Assumes nothing.
 use Prim.Native.Nat.{_*_, _/_}
 use native.Mathlib.Nat.{mul-le-mul, min-le-left}
 use native.Mathlib.Omega.{arith}

@@ -1,4 +1,4 @@
--- `rate_split::split::prio_of`: by the test. Assumes nothing.
+-- `rate_split::split::prio_of`: by whether the fine bits were rounded up; the products fit 32 bits. Assumes nothing.
 use Prim.Native.Nat.{_*_, _≤_}
 use native.Mathlib.Nat.{mul-le-mul}
 use native.Mathlib.Omega.{arith}

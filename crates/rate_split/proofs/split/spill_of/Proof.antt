@@ -1,9 +1,9 @@
--- `rate_split::split::spill_of`: by the two tests. Assumes nothing.
+-- `rate_split::split::spill_of`: by whether there is an excess, and by whether all of it came from the band below. Assumes nothing.
 use Prim.Native.Nat.{_*_}
 use native.Mathlib.Nat.{mul-le-mul}
 use native.Mathlib.Omega.{arith}
 use borrow.Author.Tests.{eq-eqb, ne-eqb, le-leb, lt-leb}
-use Rattle.rate_def.specs.Split.{spill}
+use Rattle.rate_spec.specs.Split.{spill}
 use borrow.Author.Needs.{needs}
 use Rattle.rate_split.proofs.split.spill_of.Statement.{statement}
 use Rattle.rate_split.proofs.split.spill_of.Tie as tie

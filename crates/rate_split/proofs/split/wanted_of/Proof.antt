@@ -5,17 +5,17 @@ use borrow.Author.Needs.{needs}
 use Rattle.rate_split.proofs.split.wanted_of.Statement.{statement}
 use Rattle.rate_split.proofs.split.wanted_of.Tie as tie
 
-mul-less : tie.Need-mul-less
-mul-less c = search needs
+mul-saturating-sub : tie.Need-mul-saturating-sub
+mul-saturating-sub c = search needs
 
-less-requires : tie.Need-less-requires
-less-requires c κs = search needs
+saturating-sub-requires : tie.Need-saturating-sub-requires
+saturating-sub-requires c κs = search needs
 
 div-result : tie.Need-div-result
 div-result c = search needs
 
 returns : tie.Need-returns
-returns c = (rw (c .less .ensures), omega (arith, div-le-self (c .less .result) (c .before .args .den), c .less .ok))
+returns c = (rw (c .saturating-sub .ensures), omega (arith, div-le-self (c .saturating-sub .result) (c .before .args .den), c .saturating-sub .ok))
 
 pub wanted-of-spec : {M : Type 1} → statement M
-wanted-of-spec = tie.close (tie.spec mul-less less-requires div-result returns)
+wanted-of-spec = tie.close (tie.spec mul-saturating-sub saturating-sub-requires div-result returns)

@@ -23,7 +23,11 @@ mul-spill-of : tie.Need-mul-spill-of
 mul-spill-of c = search needs
 
 mul-spill-of-2 : tie.Need-mul-spill-of-2
-mul-spill-of-2 c = omega (arith, mul-le-mul {n₁ = 8 * c .before .before .before .before .args .c} {n₂ = 16} {m₂ = 8} (omega arith) (c .before .fine-of .ensures .1))
+mul-spill-of-2 c = omega (
+  arith,
+  mul-le-mul {n₁ = 8 * c .before .before .before .before .args .c} {n₂ = 16} {m₂ = 8} (omega arith)
+      (c .before .fine-of .ensures .1),
+)
 
 sub-spill-of : tie.Need-sub-spill-of
 sub-spill-of c =

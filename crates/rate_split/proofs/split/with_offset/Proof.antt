@@ -1,5 +1,5 @@
--- `rate_split::split::with_offset`: the one after the other. Assumes nothing.
-use Rattle.rate_def.specs.Split.{withOffset}
+-- `rate_split::split::with_offset`: the bits with the offset, and then their correction. Assumes nothing.
+use Rattle.rate_spec.specs.Split.{withOffset}
 use borrow.Author.Needs.{needs}
 use Rattle.rate_split.proofs.split.with_offset.Statement.{statement}
 use Rattle.rate_split.proofs.split.with_offset.Tie as tie

@@ -1,4 +1,4 @@
--- `replay_calls::allocations::lend` is safe and ends. Assumes nothing.
+-- `replay_calls::allocations::lend`: every access is within its bounds. Assumes nothing.
 use borrow.Author.Needs.{needs}
 use lib.Seq.{length-take-le}
 use Rattle.replay_calls.proofs.allocations.lend.Statement.{statement}

@@ -1,4 +1,4 @@
--- `replay_calls::energies::ask` is safe and ends. Assumes nothing.
+-- `replay_calls::energies::ask`: every access is within its bounds. Assumes nothing.
 use borrow.Author.Needs.{needs}
 use lib.Seq.{length-take-le}
 use Rattle.replay_calls.proofs.energies.ask.Statement.{statement}

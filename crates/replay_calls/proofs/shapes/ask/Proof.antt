@@ -1,4 +1,4 @@
--- `replay_calls::shapes::ask` is safe and ends. Assumes nothing.
+-- `replay_calls::shapes::ask`: every access is within its bounds. Assumes nothing.
 use borrow.Author.Needs.{needs}
 use lib.Seq.{length-take-le}
 use Rattle.replay_calls.proofs.shapes.ask.Statement.{statement}

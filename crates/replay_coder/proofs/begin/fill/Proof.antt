@@ -1,4 +1,4 @@
--- `replay_coder::begin::fill` is safe and ends. The measure is what is left of the bytes. Assumes nothing.
+-- `replay_coder::begin::fill`: every access is within its bounds; the measure is what remains of the bytes. Assumes nothing.
 use borrow.Author.Needs.{needs}
 use mathlib.Core.Path.{_≡_}
 use Prim.Native.Nat.{_-_}

@@ -1,4 +1,4 @@
--- `replay_coder::vectors::clear` is safe and ends. The measure is what is left of the places. Assumes nothing.
+-- `replay_coder::vectors::clear`: every access is within its bounds; the measure is what remains of the places. Assumes nothing.
 use borrow.Author.Needs.{needs}
 use mathlib.Core.Path.{_≡_}
 use Prim.Native.Nat.{_-_}

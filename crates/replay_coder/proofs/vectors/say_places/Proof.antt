@@ -1,4 +1,4 @@
--- `replay_coder::vectors::say_places` is safe and ends. The measure is what is left of the places. Assumes nothing.
+-- `replay_coder::vectors::say_places`: every access is within its bounds; the measure is what remains of the places. Assumes nothing.
 use borrow.Author.Needs.{needs}
 use Prim.Native.Nat.{_-_, _≤_}
 use lib.ListN.{length}

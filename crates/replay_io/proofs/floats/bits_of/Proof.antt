@@ -1,4 +1,4 @@
--- `replay_io::floats::bits_of` is safe: what equals itself is no NaN. Assumes nothing.
+-- `replay_io::floats::bits_of`: what equals itself is no NaN. Assumes nothing.
 use mathlib.Core.Path.{_≡_}
 use mathlib.Core.Bool.{true, not, false≢true}
 use lib.Dec.{T}

@@ -1,4 +1,4 @@
--- `replay_io::floats::float_of` is safe: up to the infinity's bits there is no NaN. Assumes nothing.
+-- `replay_io::floats::float_of`: up to the infinity's bits there is no NaN. Assumes nothing.
 use lib.Ieee.{nanBits}
 use Rattle.laws.proofs.Floats.{bits-no-nan}
 use borrow.Author.Needs.{needs}

@@ -1,4 +1,4 @@
--- `replay_io::floats::floats_of` is safe and ends. The measure is what is left of the floats. Assumes nothing.
+-- `replay_io::floats::floats_of`: every access is within its bounds; the measure is what remains of the floats. Assumes nothing.
 use borrow.Author.Needs.{needs}
 use Prim.Native.Nat.{_-_}
 use mathlib.Core.Path.{_≡_}

@@ -1,4 +1,4 @@
--- `replay_io::floats::push_floats` is safe and ends. The measure is what is left of the floats. Assumes nothing.
+-- `replay_io::floats::push_floats`: every access is within its bounds; the measure is what remains of the floats. Assumes nothing.
 use borrow.Author.Needs.{needs}
 use Prim.Native.Nat.{_-_}
 use mathlib.Core.Path.{_≡_}

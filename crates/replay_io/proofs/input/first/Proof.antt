@@ -1,4 +1,4 @@
--- `replay_io::input::first` is safe and ends. Assumes nothing.
+-- `replay_io::input::first`: the cut is within the buffer. Assumes nothing.
 use borrow.Author.Needs.{needs}
 use lib.Seq.{length-take-le}
 use Rattle.replay_io.proofs.input.first.Statement.{statement}

@@ -1,4 +1,4 @@
--- `replay_io::input::next` is safe and ends. The measure is the blocks that may still be read. Assumes nothing.
+-- `replay_io::input::next`: every access is within its bounds; the measure is the blocks that may still be read. Assumes nothing.
 use borrow.Author.Needs.{needs}
 use mathlib.Core.Path.{_≡_}
 use lib.ListN.{length}

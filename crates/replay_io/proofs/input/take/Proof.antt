@@ -1,4 +1,4 @@
--- `replay_io::input::take` is safe and ends. The measure is what is left of the block. Assumes nothing.
+-- `replay_io::input::take`: every access is within its bounds; the measure is what remains of the block. Assumes nothing.
 use borrow.Author.Needs.{needs}
 use Prim.Native.Nat.{_-_}
 use mathlib.Core.Path.{_≡_}

@@ -1,4 +1,4 @@
--- `replay_io::list::read` is safe and ends. The measure is the room that is left. Assumes nothing.
+-- `replay_io::list::read`: every access is within its bounds; the measure is the room that remains. Assumes nothing.
 use borrow.Author.Needs.{needs}
 use Prim.Native.Nat.{_-_}
 use mathlib.Core.Path.{_≡_}

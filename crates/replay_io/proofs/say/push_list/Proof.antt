@@ -1,4 +1,4 @@
--- `replay_io::say::push_list` is safe and ends. The measure is what is left of the list. Assumes nothing.
+-- `replay_io::say::push_list`: every access is within its bounds; the measure is what remains of the list. Assumes nothing.
 use borrow.Author.Needs.{needs}
 use mathlib.Core.Path.{_≡_}
 use Prim.Native.Nat.{_-_}

@@ -1,4 +1,4 @@
--- `stream::Record::frame` meets its contract. Assumes nothing.
+-- `stream::Record::frame`: the gate's number decides, and number 0 says all that the worker asks. Assumes nothing.
 use mathlib.Core.Path.{_≡_, sym, _∙_}
 use mathlib.Core.Bool.{true}
 use denote.Ref.{now}
@@ -10,17 +10,17 @@ use Rattle.laws.specs.Lists.{every}
 use Rattle.entdec.proofs.Accepted.{Open, opened}
 use Rattle.entdec.proofs.Chain.{sound-ready}
 use Rattle.stream.specs.Frame.{Call, call, numbersOk, orderOf, refusalFrame}
-use Rattle.stream.proofs.Accepts.{known, got, turned-down}
+use Rattle.stream.proofs.Accepts.{known, answer-applied, answer-refused}
 use borrow.Author.Needs.{needs}
 use Rattle.stream.proofs.Record.frame.Statement.{statement}
 use Rattle.stream.proofs.Record.frame.Tie as tie
 
 -- what the call is handed
-abbrev asked : tie.Start → Call
-asked p = let a = p .args in call (a .d) (now (a .s)) (a .number) (a .c) (a .lm) (a .start) (a .end) (a .intra)
+abbrev called : tie.Start → Call
+called p = let a = p .args in call (a .d) (now (a .s)) (a .number) (a .c) (a .lm) (a .start) (a .end) (a .intra)
 
 -- the gate's number, in the contract's terms
-gated : (c : tie.After-refusal) → let p = c .before .before in c .refusal .result ≡ refusalFrame (p .args .self) (asked p)
+gated : (c : tie.After-refusal) → let p = c .before .before in c .refusal .result ≡ refusalFrame (p .args .self) (called p)
 unfolding refusalFrame
 gated c =
     let f = c .before .before .fits in
@@ -53,14 +53,14 @@ returns c =
     let t = c .before in
     let p = t .before .before .before in
     let f = p .fits in
-    got _ (p .args .self) (asked p) (sym (gated (t .before)) ∙ t .if1 .taken)
+    answer-applied _ (p .args .self) (called p) (sym (gated (t .before)) ∙ t .if1 .taken)
     (rw (toZ-ofZ (f .c), toZ-ofZ (f .lm), toZ-ofZ (f .start), toZ-ofZ (f .end), toZ-ofZ (f .intra)) at (c .apply .ensures))
 
 returns-2 : tie.Need-returns-2
 returns-2 c =
     let p = c .before .before .before in
     let g = gated (c .before) in
-    rw g (turned-down _ (p .args .self) (asked p) (rw g at (c .if1 .left)))
+    rw g (answer-refused _ (p .args .self) (called p) (rw g at (c .if1 .left)))
 
 pub frame-spec : {M : Type 1} → statement M
 frame-spec = tie.close (tie.spec refusal-requires apply-requires returns returns-2)

@@ -1,4 +1,4 @@
--- `stream::Record::fresh` meets its contract. Assumes nothing.
+-- `stream::Record::fresh`: the definition itself, a zero by its bits. Assumes nothing.
 use mathlib.Core.Path.{refl}
 use lib.Ieee.{ofBits}
 use Rattle.stream.specs.Frame.{fresh}

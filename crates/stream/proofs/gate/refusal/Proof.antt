@@ -28,7 +28,8 @@ returns c =
     let f = n .before .before .fits in
     let a = n .before .before .args in
     let e = rw (toZ-ofZ (f .c), toZ-ofZ (f .lm), toZ-ofZ (f .start), toZ-ofZ (f .end), toZ-ofZ (f .intra)) at (n .numbers-ok .ensures) in
-    let r : c .refusal .result ≡ readRefusal (a .bytes) (a .d) true (n .numbers-ok .result) (c .before .before .all-finite .result) (c .before .order-of .result) =
+    let r : c .refusal .result
+    ≡ readRefusal (a .bytes) (a .d) true (n .numbers-ok .result) (c .before .before .all-finite .result) (c .before .order-of .result) =
     c .refusal .ensures in
     rw (e, c .before .before .all-finite .ensures, c .before .order-of .ensures) at r
 

@@ -2,7 +2,7 @@
 use denote.Ref.{now}
 use mir.Facts.{toZ-ofZ}
 use Rattle.quant_bands.proofs.Accepts.{coarse-in}
-use Rattle.stream.proofs.Accepts.{made}
+use Rattle.stream.proofs.Accepts.{applied-by}
 use borrow.Author.Needs.{needs}
 use Rattle.stream.proofs.work.apply.Statement.{statement}
 use Rattle.stream.proofs.work.apply.Tie as tie
@@ -49,7 +49,7 @@ returns c =
     let t = k .before .before .before in
     let p = t .before .before .before .before .before in
     let f = p .fits in
-    made (p .args .rec) (p .args .d) (now (p .args .s)) (p .args .c) (p .args .lm) (p .args .start) (p .args .end) (p .args .intra)
+    applied-by (p .args .rec) (p .args .d) (now (p .args .s)) (p .args .c) (p .args .lm) (p .args .start) (p .args .end) (p .args .intra)
     (rw (
       rw (toZ-ofZ (f .c)) at (t .before .before .before .clipped .ensures .0),
       rw (toZ-ofZ (f .lm)) at (t .before .before .place-of .ensures),

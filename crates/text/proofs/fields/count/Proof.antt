@@ -1,11 +1,11 @@
--- `text::fields::count` meets its contract. Assumes nothing.
+-- `text::fields::count`: the invariant: the fields of what remains and the count are together one more than the fields of the line. Assumes nothing.
 use Prim.Native.Nat.{_+_, _-_, _≤_}
 use mathlib.Core.Path.{_≡_, refl}
 use native.Mathlib.Omega.{arith}
 use lib.ListN.{length, drop}
 use borrow.Author.Needs.{needs}
-use Rattle.text.specs.Parts.{fieldsOf}
-use Rattle.text.proofs.Tabs.{count-next, count-last}
+use Rattle.text.specs.Fields.{fieldsOf}
+use Rattle.text.proofs.FieldLaws.{count-next, count-last}
 use Rattle.text.proofs.fields.count.Statement.{statement}
 use Rattle.text.proofs.fields.count.Tie as tie
 
@@ -33,7 +33,8 @@ loop-less c = search needs
 loop-again : tie.Need-loop-again Inv-loop μ-loop
 loop-again c =
     let l = c .before .before .before .loop in
-    let p = count-next (c .before .before .before .before .before .args .s .now) (l .i) (l .n) (c .before .before .loop-test .taken) (c .more-at-tab .ensures) in
+    let p = count-next (c .before .before .before .before .before .args .s .now) (l .i) (l .n) (c .before .before .loop-test .taken)
+    (c .more-at-tab .ensures) in
     (omega arith, omega (arith, p .1), omega (arith, p .0))
 
 returns : tie.Need-returns Inv-loop μ-loop

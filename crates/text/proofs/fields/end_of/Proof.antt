@@ -1,10 +1,10 @@
--- `text::fields::end_of` meets its contract. Assumes nothing.
+-- `text::fields::end_of`: the invariant: the end of the field is the same from the place reached as from the first. Assumes nothing.
 use Prim.Native.Nat.{_-_}
 use mathlib.Core.Path.{_≡_, refl, sym, _∙_}
 use lib.ListN.{length}
 use borrow.Author.Needs.{needs}
-use Rattle.text.specs.Parts.{endFrom}
-use Rattle.text.proofs.Tabs.{end-here, end-next, end-last}
+use Rattle.text.specs.Fields.{endFrom}
+use Rattle.text.proofs.FieldLaws.{end-here, end-next, end-last}
 use Rattle.text.proofs.fields.end_of.Statement.{statement}
 use Rattle.text.proofs.fields.end_of.Tie as tie
 

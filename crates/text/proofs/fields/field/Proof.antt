@@ -1,10 +1,10 @@
--- `text::fields::field` meets its contract. Assumes nothing.
+-- `text::fields::field`: the invariant: p is the place of field k; once a place ends with the line, all later ones are at its end. Assumes nothing.
 use Prim.Native.Nat.{_-_, _≤_}
 use mathlib.Core.Path.{_≡_, ap, _∙_}
 use native.Mathlib.Omega.{arith}
 use borrow.Author.Needs.{needs}
-use Rattle.text.specs.Parts.{placeOf}
-use Rattle.text.proofs.Tabs.{place-first, place-next, place-past, field-is}
+use Rattle.text.specs.Fields.{placeOf}
+use Rattle.text.proofs.FieldLaws.{place-first, place-next, place-past, field-is}
 use Rattle.text.proofs.fields.field.Statement.{statement}
 use Rattle.text.proofs.fields.field.Tie as tie
 
@@ -30,7 +30,11 @@ loop-less : tie.Need-loop-less Inv-loop μ-loop
 loop-less c = search needs
 
 loop-again : tie.Need-loop-again Inv-loop μ-loop
-loop-again c = (omega arith, place-next (c .before .before .before .before .before .before .before .args .s .now) (c .before .before .before .before .loop .k) (c .before .before .before .before .loop .inv .1) (c .next .ensures))
+loop-again c = (
+  omega arith,
+  place-next (c .before .before .before .before .before .before .before .args .s .now) (c .before .before .before .before .loop .k)
+      (c .before .before .before .before .loop .inv .1) (c .next .ensures),
+)
 
 span-from-requires-2 : tie.Need-span-from-requires-2 Inv-loop μ-loop
 span-from-requires-2 c κs = search needs
@@ -39,13 +43,16 @@ returns : tie.Need-returns Inv-loop μ-loop
 returns c =
     let l = c .before .before .before .before .loop in
     let s = c .before .before .before .before .before .before .before .args .s .now in
-    field-is s (c .before .before .before .before .before .before .before .args .n) (c .span-from2 .ensures ∙ place-past s (l .k) (c .before .before .before .before .before .before .before .args .n) (l .inv .1) (c .before .before .before .loop-test .taken) (c .before .if1 .left))
+    field-is s (c .before .before .before .before .before .before .before .args .n)
+    (c .span-from2 .ensures ∙ place-past s (l .k) (c .before .before .before .before .before .before .before .args .n) (l .inv .1)
+    (c .before .before .before .loop-test .taken) (c .before .if1 .left))
 
 returns-2 : tie.Need-returns-2 Inv-loop μ-loop
 returns-2 c =
     let l = c .before .loop in
     let e : l .k ≡ c .before .before .before .before .args .n = omega arith in
-    field-is (c .before .before .before .before .args .s .now) (c .before .before .before .before .args .n) (l .inv .1 ∙ ap (placeOf (c .before .before .before .before .args .s .now)) e)
+    field-is (c .before .before .before .before .args .s .now) (c .before .before .before .before .args .n)
+    (l .inv .1 ∙ ap (placeOf (c .before .before .before .before .args .s .now)) e)
 
 pub field-spec : {M : Type 1} → statement M
 field-spec =

@@ -1,4 +1,4 @@
--- `text::fields::more_at_tab` meets its contract. Assumes nothing.
+-- `text::fields::more_at_tab`: one case for each side of the test. Assumes nothing.
 use borrow.Author.Tests.{eq-eqb, ne-eqb}
 use borrow.Author.Needs.{needs}
 use Rattle.text.proofs.fields.more_at_tab.Statement.{statement}

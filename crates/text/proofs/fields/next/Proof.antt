@@ -1,10 +1,10 @@
--- `text::fields::next` meets its contract. Assumes nothing.
+-- `text::fields::next`: the place after the tab, and the end where there is none, are the `min` of the definition. Assumes nothing.
 use Prim.Native.Nat.{_+_, min}
 use mathlib.Core.Path.{_≡_, ap, _∙_}
 use native.Mathlib.Omega.{arith}
 use lib.ListN.{length}
 use borrow.Author.Needs.{needs}
-use Rattle.text.specs.Parts.{spanFrom}
+use Rattle.text.specs.Fields.{spanFrom}
 use Rattle.text.proofs.fields.next.Statement.{statement}
 use Rattle.text.proofs.fields.next.Tie as tie
 

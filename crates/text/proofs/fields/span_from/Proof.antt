@@ -1,4 +1,4 @@
--- `text::fields::span_from` meets its contract. Assumes nothing.
+-- `text::fields::span_from`: the end of the field is what `end_of` gives. Assumes nothing.
 use borrow.Author.Needs.{needs}
 use Rattle.text.proofs.fields.span_from.Statement.{statement}
 use Rattle.text.proofs.fields.span_from.Tie as tie

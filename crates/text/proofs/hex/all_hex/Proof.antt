@@ -1,4 +1,4 @@
--- `text::hex::all_hex` meets its contract. Assumes nothing.
+-- `text::hex::all_hex`: the invariant: what remains is all digits just where the whole is. Assumes nothing.
 use Prim.Native.Nat.{_-_, _≤_}
 use mathlib.Core.Path.{_≡_, refl, sym, _∙_}
 use native.Mathlib.Omega.{arith}
@@ -28,7 +28,8 @@ returns : tie.Need-returns Inv-loop μ-loop
 returns c =
     let l = c .before .before .before .before .loop in
     let e = c .before .digit .ensures .0 in
-    sym (hex-bad (c .before .before .before .before .before .before .args .s .now) (l .i) (c .before .before .before .loop-test .taken) (omega arith)) ∙ l .inv .1
+    sym (hex-bad (c .before .before .before .before .before .before .args .s .now) (l .i) (c .before .before .before .loop-test .taken) (omega arith)) ∙
+    l .inv .1
 
 add-i : tie.Need-add-i Inv-loop μ-loop
 add-i c = search needs
@@ -39,8 +40,11 @@ loop-less c = search needs
 loop-again : tie.Need-loop-again Inv-loop μ-loop
 loop-again c =
     let l = c .before .before .before .before .loop in
-    let e = c .before .digit .ensures .0 in
-    (omega arith, hex-next (c .before .before .before .before .before .before .args .s .now) (l .i) (c .before .before .before .loop-test .taken) (omega arith) ∙ l .inv .1)
+    let e = c .before .digit .ensures .0 in (
+      omega arith,
+      hex-next (c .before .before .before .before .before .before .args .s .now) (l .i) (c .before .before .before .loop-test .taken) (omega arith)
+          ∙ l .inv .1,
+    )
 
 returns-2 : tie.Need-returns-2 Inv-loop μ-loop
 returns-2 c =

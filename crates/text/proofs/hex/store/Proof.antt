@@ -1,4 +1,4 @@
--- `text::hex::store` meets its contract. Assumes nothing.
+-- `text::hex::store`: the invariant: the bytes of what remains, stored from place i on, give what all bytes give stored from 0 on. Assumes nothing.
 use Prim.Native.Nat.{_+_, _-_, _*_, _/_, _≤_}
 use mathlib.Core.Path.{_≡_, refl, _∙_}
 use native.Mathlib.Omega.{arith}
@@ -42,10 +42,12 @@ digit-requires-2 c κs = search needs
 
 byte-requires : tie.Need-byte-requires Inv-loop μ-loop
 byte-requires c κs =
-    let s = c .before .before .before .before .before .before .before .before .args .s .now in
-    let i = c .before .before .before .before .before .loop .i in
-    let h = digit-at 16 s (2 * i) (c .before .before .before .before .before .before .before .before .pre .1) (omega arith) in
-    let k = digit-at 16 s (2 * i + 1) (c .before .before .before .before .before .before .before .before .pre .1) (omega arith) in
+    let at-loop = c .before .before .before .before .before in
+    let start = at-loop .before .before .before in
+    let s = start .args .s .now in
+    let i = at-loop .loop .i in
+    let h = digit-at 16 s (2 * i) (start .pre .1) (omega arith) in
+    let k = digit-at 16 s (2 * i + 1) (start .pre .1) (omega arith) in
     (omega (arith, c .before .before .digit .ensures .0), omega (arith, c .digit2 .ensures .0))
 
 slice-write-out : tie.Need-slice-write-out Inv-loop μ-loop
@@ -59,9 +61,16 @@ loop-less c = search needs
 
 loop-again : tie.Need-loop-again Inv-loop μ-loop
 loop-again c =
-    let s = c .before .before .before .before .before .before .before .before .before .args .s .now in
-    let l = c .before .before .before .before .before .before .loop in
-    (omega arith, refl, simp length-set (l .inv .2), store-next s (l .out) (l .i) (omega arith) (c .byte .ensures) (c .before .before .before .digit .ensures .0) (c .before .digit2 .ensures .0) ∙ l .inv .3)
+    let at-loop = c .before .before .before .before .before .before in
+    let start = at-loop .before .before .before in
+    let s = start .args .s .now in
+    let l = at-loop .loop in (
+      omega arith,
+      refl,
+      simp length-set (l .inv .2),
+      store-next s (l .out) (l .i) (omega arith) (c .byte .ensures)
+          (c .before .before .before .digit .ensures .0) (c .before .digit2 .ensures .0) ∙ l .inv .3,
+    )
 
 same-length : tie.Need-same-length Inv-loop μ-loop
 same-length c = c .before .loop .inv .2

@@ -1,4 +1,4 @@
--- `text::read::digit` meets its contract. Assumes nothing.
+-- `text::read::digit`: one case for each range of bytes. Assumes nothing.
 use borrow.Author.Tests.{lt-ltb, le-ltb}
 use borrow.Author.Needs.{needs}
 use Rattle.text.specs.Digits.{digitOf}

@@ -1,15 +1,16 @@
--- `text::read::digits` meets its contract. Assumes nothing.
+-- `text::read::digits`: the invariant: the value so far and the digits that remain give what all digits give, and it is at most the bound, so that 64
+-- bits hold the next one. Assumes nothing.
 use Prim.Native.Nat.{_-_, _≤_}
 use mathlib.Core.Path.{_≡_, refl, sym, _∙_}
 use native.Mathlib.Omega.{arith}
 use lib.ListN.{length, drop}
 use borrow.Author.Needs.{needs}
-use Rattle.text.proofs.Values.{given, given-last, given-no-digit, given-over, given-next, more-fits}
+use Rattle.text.proofs.Values.{digitsAfter, digits-end, digits-no-digit, digits-over, digits-next, more-fits}
 use Rattle.text.proofs.read.digits.Statement.{statement}
 use Rattle.text.proofs.read.digits.Tie as tie
 
 abbrev Inv-loop : tie.InvT-loop
-Inv-loop s base most v₀ i₀ v i = (i ≤ length s) × (v ≤ most) × (given base most v (drop i s) ≡ given base most 0 s)
+Inv-loop s base most v₀ i₀ v i = (i ≤ length s) × (v ≤ most) × (digitsAfter base most v (drop i s) ≡ digitsAfter base most 0 s)
 
 abbrev μ-loop : tie.MeasureT-loop
 μ-loop s base most v₀ i₀ v i = length s - i
@@ -31,7 +32,9 @@ returns c =
     let s = c .before .before .before .before .before .before .args .s .now in
     let l = c .before .before .before .before .loop in
     let e = c .before .digit .ensures .0 in
-    sym (given-no-digit (c .before .before .before .before .before .before .args .base) (c .before .before .before .before .before .before .args .most) (l .v) s (l .i) (c .before .before .before .loop-test .taken) (omega arith)) ∙ l .inv .2
+    sym (digits-no-digit (c .before .before .before .before .before .before .args .base) (c .before .before .before .before .before .before .args .most) (l .v)
+    s
+    (l .i) (c .before .before .before .loop-test .taken) (omega arith)) ∙ l .inv .2
 
 mul-v : tie.Need-mul-v Inv-loop μ-loop
 mul-v c =
@@ -55,7 +58,9 @@ returns-2 c =
     let s = c .before .before .before .before .before .before .before .args .s .now in
     let l = c .before .before .before .before .before .loop in
     let e = c .before .before .digit .ensures .0 in
-    sym (given-over (c .before .before .before .before .before .before .before .args .base) (c .before .before .before .before .before .before .before .args .most) (l .v) s (l .i) (c .before .before .before .before .loop-test .taken) (omega arith) (omega arith)) ∙ l .inv .2
+    sym (digits-over (c .before .before .before .before .before .before .before .args .base)
+    (c .before .before .before .before .before .before .before .args .most) (l .v) s (l .i) (c .before .before .before .before .loop-test .taken) (omega arith)
+    (omega arith)) ∙ l .inv .2
 
 add-i : tie.Need-add-i Inv-loop μ-loop
 add-i c = search needs
@@ -68,8 +73,12 @@ loop-again c =
     let s = c .before .before .before .before .before .before .before .args .s .now in
     let a = c .before .before .before .before .before .before .before .args in
     let l = c .before .before .before .before .before .loop in
-    let e = c .before .before .digit .ensures .0 in
-    (omega arith, c .if2 .left, rw e (given-next (a .base) (a .most) (l .v) s (l .i) (c .before .before .before .before .loop-test .taken) (omega arith) ∙ l .inv .2))
+    let e = c .before .before .digit .ensures .0 in (
+      omega arith,
+      c .if2 .left,
+      rw e (digits-next (a .base) (a .most) (l .v) s (l .i) (c .before .before .before .before .loop-test .taken) (omega arith) ∙
+          l .inv .2),
+    )
 
 cast-t15 : tie.Need-cast-t15 Inv-loop μ-loop
 cast-t15 c = search needs
@@ -78,7 +87,7 @@ returns-3 : tie.Need-returns-3 Inv-loop μ-loop
 returns-3 c =
     let a = c .before .before .before .args in
     let l = c .before .loop in
-    sym (given-last (a .base) (a .most) (l .v) (a .s .now) (l .i) (c .loop-test .left) (l .inv .1)) ∙ l .inv .2
+    sym (digits-end (a .base) (a .most) (l .v) (a .s .now) (l .i) (c .loop-test .left) (l .inv .1)) ∙ l .inv .2
 
 pub digits-spec : {M : Type 1} → statement M
 digits-spec =

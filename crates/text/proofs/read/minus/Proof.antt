@@ -1,4 +1,4 @@
--- `text::read::minus` meets its contract. Assumes nothing.
+-- `text::read::minus`: a number that is not 0 and at most 2^31 has its negative in 32 bits. Assumes nothing.
 use Prim.Native.Nat.{_≤_}
 use mathlib.Core.Path.{ap, _∙_, subst}
 use native.Mathlib.Omega.{arith}
@@ -19,14 +19,16 @@ returns c = search needs
 
 value-of-requires : tie.Need-value-of-requires
 value-of-requires c κs =
-    let h : c .before .before .n .given .0 .0 ≤ 2147483648 = subst (AtMost 2147483648) (c .before .before .n .given .1) (c .before .before .before .before .pre) in
+    let h : c .before .before .n .given .0 .0 ≤ 2147483648 = subst (AtMost 2147483648) (c .before .before .n .given .1)
+    (c .before .before .before .before .pre) in
     omega arith
 
 enum-told : tie.Need-enum-told
 enum-told c = search needs
 
 returns-2 : tie.Need-returns-2
-returns-2 c = rw (c .before .before .before .n .given .1, ne-eqb _ _ (c .before .if1 .left)) (ap Is (toZ-ofZ {w = w32} (record { sfits = c .value-of .ok }) ∙ c .value-of .ensures))
+returns-2 c = rw (c .before .before .before .n .given .1, ne-eqb _ _ (c .before .if1 .left))
+    (ap Is (toZ-ofZ {w = w32} (record { sfits = c .value-of .ok }) ∙ c .value-of .ensures))
 
 returns-3 : tie.Need-returns-3
 returns-3 c = search needs

@@ -1,4 +1,4 @@
--- `text::read::plus` meets its contract. Assumes nothing.
+-- `text::read::plus`: a number of at most 2^31 - 1 is itself in 32 bits with a sign. Assumes nothing.
 use Prim.Native.Nat.{_≤_}
 use mathlib.Core.Path.{sym, ap, _∙_, subst}
 use native.Mathlib.Omega.{arith}

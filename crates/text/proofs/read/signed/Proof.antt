@@ -1,4 +1,4 @@
--- `text::read::signed` meets its contract. Assumes nothing.
+-- `text::read::signed`: by the first byte; the bound of each side is the one that its worker asks for. Assumes nothing.
 use mathlib.Core.Path.{ap, _∙_}
 use borrow.Author.Needs.{needs}
 use Rattle.text.proofs.Values.{number-most, whole-none, whole-minus, whole-plus}
@@ -28,7 +28,8 @@ minus-requires : tie.Need-minus-requires
 minus-requires c κs = rw (c .number .ensures) (number-most 2147483648 _)
 
 returns-2 : tie.Need-returns-2
-returns-2 c = c .minus .ensures ∙ ap minus (c .before .number .ensures) ∙ whole-minus (c .before .before .before .before .before .before .before .args .s .now) (c .before .before .before .if2 .taken)
+returns-2 c = c .minus .ensures ∙ ap minus (c .before .number .ensures) ∙ whole-minus (c .before .before .before .before .before .before .before .args .s .now)
+    (c .before .before .before .if2 .taken)
 
 number-requires-2 : tie.Need-number-requires-2
 number-requires-2 c κs = search needs
@@ -37,7 +38,8 @@ plus-requires : tie.Need-plus-requires
 plus-requires c κs = rw (c .number2 .ensures) (number-most 2147483647 _)
 
 returns-3 : tie.Need-returns-3
-returns-3 c = c .plus .ensures ∙ ap plus (c .before .number2 .ensures) ∙ whole-plus (c .before .before .before .before .before .before .args .s .now) (c .before .before .if2 .left)
+returns-3 c = c .plus .ensures ∙ ap plus (c .before .number2 .ensures) ∙ whole-plus (c .before .before .before .before .before .before .args .s .now)
+    (c .before .before .if2 .left)
 
 pub signed-spec : {M : Type 1} → statement M
 signed-spec =

@@ -1,4 +1,4 @@
--- `text::read::signed_at` meets its contract. Assumes nothing.
+-- `text::read::signed_at`: the bytes at the place of field n are the field. Assumes nothing.
 use mathlib.Core.Path.{ap, _∙_}
 use borrow.Author.Needs.{needs}
 use Rattle.text.specs.Numbers.{wholeOf}

@@ -1,4 +1,4 @@
--- `text::read::signed_in` meets its contract. Assumes nothing.
+-- `text::read::signed_in`: a number that was read is kept just where it is in the range. Assumes nothing.
 use mathlib.Core.Path.{_≡_, sym, ap, _∙_}
 use lib.IntN.{ℤ}
 use mir.Val.{SFits, toZ, ofZ}
@@ -21,33 +21,41 @@ enum-known-z c = search needs
 in-range-requires : tie.Need-in-range-requires
 in-range-requires c κs = search needs
 
+-- the number that was read is one of 32 bits
+number-fits : (c : tie.After-in-range) → SFits w32 (c .before .before .z .given .0 .0)
+number-fits c = record { sfits = c .before .known-told .given .0 .1 }
+
+-- the code's test is the definition's
+test-is : (c : tie.After-in-range) → let a = c .before .before .before .before .before .before .args in
+    c .in-range .result ≡ inRange (a .lo) (a .hi) (c .before .before .z .given .0 .0)
+test-is c =
+    let start = c .before .before .before .before .before .before in
+    let a = start .args in
+    let z = c .before .before .z .given .0 .0 in
+    c .in-range .ensures ∙ ap (λ (x : ℤ). inRange x (toZ w32 (ofZ w32 (a .hi))) (toZ w32 (ofZ w32 z))) (toZ-ofZ (start .fits .lo))
+    ∙ ap (λ (x : ℤ). inRange (a .lo) x (toZ w32 (ofZ w32 z))) (toZ-ofZ (start .fits .hi)) ∙ ap (inRange (a .lo) (a .hi)) (toZ-ofZ (number-fits c))
+
 returns : tie.Need-returns
 returns c =
-    let a = c .before .before .before .before .before .before .before .args in
-    let f = c .before .before .before .before .before .before .before .fits in
-    let z = c .before .before .before .z .given .0 .0 in
-    let h : SFits w32 z = record { sfits = c .before .before .known-told .given .0 .1 } in
-    let e : c .before .in-range .result ≡ inRange (a .lo) (a .hi) z
-    = c .before .in-range .ensures ∙ ap (λ (x : ℤ). inRange x (toZ w32 (ofZ w32 (a .hi))) (toZ w32 (ofZ w32 z))) (toZ-ofZ (f .lo))
-    ∙ ap (λ (x : ℤ). inRange (a .lo) x (toZ w32 (ofZ w32 z))) (toZ-ofZ (f .hi)) ∙ ap (inRange (a .lo) (a .hi)) (toZ-ofZ h) in
-    ap Is (toZ-ofZ h) ∙ kept-in (a .lo) (a .hi) z (sym (c .before .before .before .before .before .signed .ensures) ∙ c .before .before .before .z .given .1) e (c .if1 .taken)
+    let at-signed = c .before .before .before .before .before in
+    let a = at-signed .before .before .args in
+    let z = c .before .before .before .z .given in
+    ap Is (toZ-ofZ (number-fits (c .before)))
+    ∙ kept-in (a .lo) (a .hi) (z .0 .0) (sym (at-signed .signed .ensures) ∙ z .1) (test-is (c .before)) (c .if1 .taken)
 
 enum-told : tie.Need-enum-told
 enum-told c = search needs
 
 returns-2 : tie.Need-returns-2
 returns-2 c =
-    let a = c .before .before .before .before .before .before .before .args in
-    let f = c .before .before .before .before .before .before .before .fits in
-    let z = c .before .before .before .z .given .0 .0 in
-    let h : SFits w32 z = record { sfits = c .before .before .known-told .given .0 .1 } in
-    let e : c .before .in-range .result ≡ inRange (a .lo) (a .hi) z
-    = c .before .in-range .ensures ∙ ap (λ (x : ℤ). inRange x (toZ w32 (ofZ w32 (a .hi))) (toZ w32 (ofZ w32 z))) (toZ-ofZ (f .lo))
-    ∙ ap (λ (x : ℤ). inRange (a .lo) x (toZ w32 (ofZ w32 z))) (toZ-ofZ (f .hi)) ∙ ap (inRange (a .lo) (a .hi)) (toZ-ofZ h) in
-    kept-out (a .lo) (a .hi) z (sym (c .before .before .before .before .before .signed .ensures) ∙ c .before .before .before .z .given .1) e (c .if1 .left)
+    let at-signed = c .before .before .before .before .before in
+    let a = at-signed .before .before .args in
+    let z = c .before .before .before .z .given in
+    kept-out (a .lo) (a .hi) (z .0 .0) (sym (at-signed .signed .ensures) ∙ z .1) (test-is (c .before)) (c .if1 .left)
 
 returns-3 : tie.Need-returns-3
-returns-3 c = sym (ap (keptIn (c .before .before .before .before .args .lo) (c .before .before .before .before .args .hi)) (sym (c .before .before .signed .ensures) ∙ c .enum-told .given .1))
+returns-3 c = sym (ap (keptIn (c .before .before .before .before .args .lo) (c .before .before .before .before .args .hi))
+    (sym (c .before .before .signed .ensures) ∙ c .enum-told .given .1))
 
 pub signed-in-spec : {M : Type 1} → statement M
 signed-in-spec =

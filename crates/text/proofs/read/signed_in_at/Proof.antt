@@ -1,11 +1,11 @@
--- `text::read::signed_in_at` meets its contract. Assumes nothing.
+-- `text::read::signed_in_at`: the bytes at the place of field n are the field. Assumes nothing.
 use mathlib.Core.Path.{ap, _∙_}
 use lib.IntN.{ℤ}
 use mir.Syntax.{w32}
 use mir.Val.{toZ, ofZ}
 use mir.Facts.{toZ-ofZ}
 use borrow.Author.Needs.{needs}
-use Rattle.text.specs.Parts.{fieldOf}
+use Rattle.text.specs.Fields.{fieldOf}
 use Rattle.text.specs.Numbers.{wholeIn}
 use Rattle.text.proofs.read.signed_in_at.Statement.{statement}
 use Rattle.text.proofs.read.signed_in_at.Tie as tie

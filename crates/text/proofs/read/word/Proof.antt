@@ -1,4 +1,4 @@
--- `text::read::word` meets its contract. Assumes nothing.
+-- `text::read::word`: eight bytes are read as digits, others refused. Assumes nothing.
 use borrow.Author.Tests.{eq-eqb, ne-eqb}
 use borrow.Author.Needs.{needs}
 use Rattle.text.proofs.read.word.Statement.{statement}

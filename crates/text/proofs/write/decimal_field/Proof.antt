@@ -1,4 +1,4 @@
--- `text::write::decimal_field` meets its contract. Assumes nothing.
+-- `text::write::decimal_field`: a tab, and the decimal after it. Assumes nothing.
 use mathlib.Core.Path.{_∙_}
 use native.Mathlib.Omega.{arith}
 use lib.ListN.{length-set}
@@ -21,7 +21,8 @@ same-length : tie.Need-same-length
 same-length c = c .before .before .decimal .kept .1 .0 ∙ simp length-set
 
 returns : tie.Need-returns
-returns c = put-byte 10 9 (decimalOf (c .before .before .before .before .before .args .n)) (c .before .before .before .before .before .args .buf .now) (c .before .before .before .before .before .args .at) (c .before .before .decimal .ensures)
+returns c = put-byte 10 9 (decimalOf (c .before .before .before .before .before .args .n)) (c .before .before .before .before .before .args .buf .now)
+    (c .before .before .before .before .before .args .at) (c .before .before .decimal .ensures)
 
 pub decimal-field-spec : {M : Type 1} → statement M
 decimal-field-spec =

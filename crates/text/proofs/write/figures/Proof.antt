@@ -1,4 +1,4 @@
--- `text::write::figures` meets its contract. Assumes nothing.
+-- `text::write::figures`: one case for each power of ten. Assumes nothing.
 use borrow.Author.Tests.{lt-ltb, le-ltb}
 use borrow.Author.Needs.{needs}
 use Rattle.text.specs.Written.{figuresOf}

@@ -1,4 +1,4 @@
--- `text::write::glyph` meets its contract. Assumes nothing.
+-- `text::write::glyph`: one case for figures and one for letters. Assumes nothing.
 use borrow.Author.Tests.{lt-ltb, le-ltb}
 use borrow.Author.Needs.{needs}
 use Rattle.text.specs.Digits.{glyphOf}

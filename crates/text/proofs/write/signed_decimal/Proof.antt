@@ -1,4 +1,4 @@
--- `text::write::signed_decimal` meets its contract. Assumes nothing.
+-- `text::write::signed_decimal`: a minus before the size of a negative number; the size alone for any other. Assumes nothing.
 use mathlib.Core.Path.{sym, ap, _∙_}
 use native.Mathlib.Omega.{arith}
 use lib.IntN.{natAbs}
@@ -10,8 +10,8 @@ use Rattle.text.proofs.Texts.{put-minus, put-plus}
 use Rattle.text.proofs.write.signed_decimal.Statement.{statement}
 use Rattle.text.proofs.write.signed_decimal.Tie as tie
 
-size-requires : tie.Need-size-requires
-size-requires c κs = search needs
+unsigned-abs-requires : tie.Need-unsigned-abs-requires
+unsigned-abs-requires c κs = search needs
 
 slice-write-buf : tie.Need-slice-write-buf
 slice-write-buf c = search needs
@@ -26,7 +26,12 @@ same-length : tie.Need-same-length
 same-length c = c .before .before .decimal .kept .1 .0 ∙ simp length-set
 
 returns : tie.Need-returns
-returns c = put-minus (c .before .before .before .before .before .before .before .args .z) (c .before .before .before .before .before .before .before .args .buf .now) (c .before .before .before .before .before .before .before .args .at) (c .before .before .before .before .before .size .ensures .0 ∙ ap natAbs (toZ-ofZ (c .before .before .before .before .before .before .before .fits .z))) (sym (ap isNeg (toZ-ofZ (c .before .before .before .before .before .before .before .fits .z))) ∙ c .before .before .before .before .if1 .taken) (c .before .before .decimal .ensures)
+returns c = put-minus (c .before .before .before .before .before .before .before .args .z)
+    (c .before .before .before .before .before .before .before .args .buf .now) (c .before .before .before .before .before .before .before .args .at)
+    (c .before .before .before .before .before .unsigned-abs .ensures .0 ∙ ap natAbs
+    (toZ-ofZ (c .before .before .before .before .before .before .before .fits .z)))
+    (sym (ap isNeg (toZ-ofZ (c .before .before .before .before .before .before .before .fits .z))) ∙ c .before .before .before .before .if1 .taken)
+    (c .before .before .decimal .ensures)
 
 decimal-requires-2 : tie.Need-decimal-requires-2
 decimal-requires-2 c κs = search needs
@@ -35,13 +40,18 @@ same-length-2 : tie.Need-same-length-2
 same-length-2 c = search needs
 
 returns-2 : tie.Need-returns-2
-returns-2 c = put-plus (c .before .before .before .before .before .before .before .args .z) (c .before .before .before .before .before .before .before .args .buf .now) (c .before .before .before .before .before .before .before .args .at) (c .before .before .before .before .before .size .ensures .0 ∙ ap natAbs (toZ-ofZ (c .before .before .before .before .before .before .before .fits .z))) (sym (ap isNeg (toZ-ofZ (c .before .before .before .before .before .before .before .fits .z))) ∙ c .before .before .before .before .if1 .left) (c .before .before .decimal2 .ensures)
+returns-2 c = put-plus (c .before .before .before .before .before .before .before .args .z)
+    (c .before .before .before .before .before .before .before .args .buf .now) (c .before .before .before .before .before .before .before .args .at)
+    (c .before .before .before .before .before .unsigned-abs .ensures .0 ∙ ap natAbs
+    (toZ-ofZ (c .before .before .before .before .before .before .before .fits .z)))
+    (sym (ap isNeg (toZ-ofZ (c .before .before .before .before .before .before .before .fits .z))) ∙ c .before .before .before .before .if1 .left)
+    (c .before .before .decimal2 .ensures)
 
 pub signed-decimal-spec : {M : Type 1} → statement M
 signed-decimal-spec =
     tie.close
     (tie.spec
-    size-requires
+    unsigned-abs-requires
     slice-write-buf
     add-decimal
     decimal-requires

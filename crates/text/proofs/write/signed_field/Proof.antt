@@ -1,4 +1,4 @@
--- `text::write::signed_field` meets its contract. Assumes nothing.
+-- `text::write::signed_field`: a tab, and the signed decimal after it. Assumes nothing.
 use mathlib.Core.Path.{_∙_}
 use native.Mathlib.Omega.{arith}
 use lib.ListN.{length-set}
@@ -22,7 +22,9 @@ same-length : tie.Need-same-length
 same-length c = c .before .before .signed-decimal .kept .1 .0 ∙ simp length-set
 
 returns : tie.Need-returns
-returns c = put-byte 11 9 (signedOf (c .before .before .before .before .before .args .z)) (c .before .before .before .before .before .args .buf .now) (c .before .before .before .before .before .args .at) (rw (toZ-ofZ (c .before .before .before .before .before .fits .z)) at (c .before .before .signed-decimal .ensures))
+returns c = put-byte 11 9 (signedOf (c .before .before .before .before .before .args .z)) (c .before .before .before .before .before .args .buf .now)
+    (c .before .before .before .before .before .args .at)
+    (rw (toZ-ofZ (c .before .before .before .before .before .fits .z)) at (c .before .before .signed-decimal .ensures))
 
 pub signed-field-spec : {M : Type 1} → statement M
 signed-field-spec =

@@ -1,4 +1,4 @@
--- `text::write::spell` meets its contract. Assumes nothing.
+-- `text::write::spell`: the invariant: the digits that remain, written in front of those that stand there, give what all digits give. Assumes nothing.
 use Prim.Native.Nat.{_≤_}
 use mathlib.Core.Path.{_≡_, _∙_}
 use native.Mathlib.Nat.{mod-lt}
@@ -12,7 +12,8 @@ use Rattle.text.proofs.write.spell.Statement.{statement}
 use Rattle.text.proofs.write.spell.Tie as tie
 
 abbrev Inv-loop : tie.InvT-loop
-Inv-loop n base k buf₀ at i₀ rest₀ buf i rest = (i ≤ k) × (length buf ≡ length buf₀) × (sets buf at (lastDigits base i rest) ≡ sets buf₀ at (lastDigits base k n))
+Inv-loop n base k buf₀ at i₀ rest₀ buf i rest = (i ≤ k) × (length buf ≡ length buf₀) ×
+    (sets buf at (lastDigits base i rest) ≡ sets buf₀ at (lastDigits base k n))
 
 abbrev μ-loop : tie.MeasureT-loop
 μ-loop n base k buf₀ at i₀ rest₀ buf i rest = i
@@ -44,8 +45,12 @@ loop-less c = search needs
 loop-again : tie.Need-loop-again Inv-loop μ-loop
 loop-again c =
     let l = c .before .before .loop in
-    let a = c .before .before .before .before .args in
-    (omega arith, simp length-set (l .inv .1), spell-next (a .base) (l .buf) (a .at) (l .i) (l .rest) (c .before .loop-test .taken) (c .glyph .ensures) ∙ l .inv .2)
+    let a = c .before .before .before .before .args in (
+      omega arith,
+      simp length-set (l .inv .1),
+      spell-next (a .base) (l .buf) (a .at) (l .i) (l .rest) (c .before .loop-test .taken) (c .glyph .ensures) ∙
+          l .inv .2,
+    )
 
 same-length : tie.Need-same-length Inv-loop μ-loop
 same-length c = c .before .loop .inv .1

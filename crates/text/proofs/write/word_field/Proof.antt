@@ -1,9 +1,9 @@
--- `text::write::word_field` meets its contract. Assumes nothing.
+-- `text::write::word_field`: a tab, and the word after it. Assumes nothing.
 use mathlib.Core.Path.{_∙_}
 use native.Mathlib.Omega.{arith}
 use lib.ListN.{length-set}
 use borrow.Author.Needs.{needs}
-use Rattle.text.specs.Written.{hexOf}
+use Rattle.text.specs.Written.{hexWordOf}
 use Rattle.text.proofs.Texts.{put-byte}
 use Rattle.text.proofs.write.word_field.Statement.{statement}
 use Rattle.text.proofs.write.word_field.Tie as tie
@@ -21,7 +21,8 @@ same-length : tie.Need-same-length
 same-length c = c .before .before .hex-word .kept .1 .0 ∙ simp length-set
 
 returns : tie.Need-returns
-returns c = put-byte 8 9 (hexOf (c .before .before .before .before .before .args .n)) (c .before .before .before .before .before .args .buf .now) (c .before .before .before .before .before .args .at) (c .before .before .hex-word .ensures)
+returns c = put-byte 8 9 (hexWordOf (c .before .before .before .before .before .args .n)) (c .before .before .before .before .before .args .buf .now)
+    (c .before .before .before .before .before .args .at) (c .before .before .hex-word .ensures)
 
 pub word-field-spec : {M : Type 1} → statement M
 word-field-spec =

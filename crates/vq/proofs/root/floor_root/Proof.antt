@@ -29,10 +29,10 @@ div-s : tie.Need-div-s Inv-loop μ-loop
 div-s c = omega arith
 
 add-s : tie.Need-add-s Inv-loop μ-loop
-add-s c = omega (arith, step c .less)
+add-s c = omega (arith, step c .falls)
 
 loop-less : tie.Need-loop-less Inv-loop μ-loop
-loop-less c = step c .less
+loop-less c = step c .falls
 
 loop-again : tie.Need-loop-again Inv-loop μ-loop
 loop-again c = let t = step c in (t .least, omega arith, t .above)

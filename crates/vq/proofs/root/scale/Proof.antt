@@ -26,7 +26,7 @@ returns : tie.Need-returns
 returns c =
     let b = c .before in
     let d = digits (b .args .n) (b .pre) (omega (arith, b .fits .n)) in
-    rw (c .ilog .ensures .0) (shifted (b .args .n) (ilog (b .args .n)) (d .some) (d .most) (d .from) (d .to))
+    rw (c .ilog .ensures .0) (shifted (b .args .n) (ilog (b .args .n)) (d .digits-pos) (d .digits-le) (d .from) (d .to))
 
 pub scale-spec : {M : Type 1} → statement M
 scale-spec = tie.close (tie.spec ilog-requires sub-j mul-t3 cast-t6 shl-t7 returns)

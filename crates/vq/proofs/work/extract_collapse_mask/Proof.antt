@@ -6,13 +6,13 @@ use lib.ListN.{length}
 use lib.Pow.{pow-mono}
 use borrow.Author.Tests.{le-leb, lt-leb}
 use denote.Ref.{now}
-use Rattle.vq.specs.Mask.{bitsOf}
+use Rattle.vq.specs.Mask.{maskBits}
 use Rattle.vq.proofs.Masks.{bits-none, bits-next, bits-lt, part-in}
 use Rattle.vq.proofs.work.extract_collapse_mask.Statement.{statement}
 use Rattle.vq.proofs.work.extract_collapse_mask.Tie as tie
 
 abbrev Inv-loop : tie.InvT-loop
-Inv-loop iy b m mask₀ i₀ mask i = (i ≤ b) × (mask ≡ bitsOf m i iy)
+Inv-loop iy b m mask₀ i₀ mask i = (i ≤ b) × (mask ≡ maskBits m i iy)
 
 abbrev μ-loop : tie.MeasureT-loop
 μ-loop iy b m mask₀ i₀ mask i = b - i
@@ -33,7 +33,7 @@ bit-of-requires c κs =
 
 -- the mask with the next part
 grown : (c : tie.After-bit-of Inv-loop μ-loop) → let l = c .before .before .loop in let a = c .before .before .before .before .args in
-    l .mask + c .bit-of .result ≡ bitsOf (length (now (a .iy)) / a .b) (l .i + 1) (now (a .iy))
+    l .mask + c .bit-of .result ≡ maskBits (length (now (a .iy)) / a .b) (l .i + 1) (now (a .iy))
 grown c =
     let l = c .before .before .loop in
     let a = c .before .before .before .before .args in
@@ -60,7 +60,7 @@ returns-2 c =
     let p = c .before in
     let a = p .before .before .args in
     let e : p .loop .i ≡ a .b = omega arith in
-    rw (lt-leb (a .b) 1 (omega arith)) (p .loop .inv .1 ∙ ap (λ (k : ℕ). bitsOf (length (now (a .iy)) / a .b) k (now (a .iy))) e)
+    rw (lt-leb (a .b) 1 (omega arith)) (p .loop .inv .1 ∙ ap (λ (k : ℕ). maskBits (length (now (a .iy)) / a .b) k (now (a .iy))) e)
 
 pub extract-collapse-mask-spec : {M : Type 1} → statement M
 extract-collapse-mask-spec =

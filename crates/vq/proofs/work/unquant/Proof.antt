@@ -1,4 +1,4 @@
--- `vq::work::unquant`: the vector stands in the first places of the room; its shape and its mask. Assumes nothing.
+-- `vq::work::unquant`: the vector stands in the first of 176 places; its shape and its mask. Assumes nothing.
 use mathlib.Core.Path.{_≡_, sym}
 use lib.ListN.{take}
 use denote.Ref.{now}

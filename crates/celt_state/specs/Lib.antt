@@ -1,3 +1,0 @@
--- A coder's state as a list of twelve numbers, and a stream's record as a list of energies and one of its next number.
-pub mod State
-pub mod Record

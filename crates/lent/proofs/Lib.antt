@@ -1,3 +1,0 @@
-pub mod Kept
-pub mod Told
-pub mod Said

@@ -1,2 +1,0 @@
--- A stream of bytes cut into lines.
-pub mod Lines
