@@ -1,4 +1,6 @@
 // Pulse words: RFC 6716, sections 4.3.4.2 and 5.3.8.2.
+#![tactic(auto)]
+
 ghost use Rattle.std.specs.Prelude.{◌≡◌};
 ghost use Rattle.entenc.specs.Write.{wr};
 ghost use Rattle.entenc.specs.Answer.{after};
@@ -11,14 +13,14 @@ pub mod gate;
 pub mod work;
 
 // What reading a vector finds beside it: its energy, and the reader after it.
-#[derive(Drop)]
+#[derive(Clone, Copy)]
 pub struct Found {
     pub energy: u32,
     pub next: Reader,
 }
 
 // What a read answers: what was found, or the number of the refusal.
-#[derive(Drop)]
+#[derive(Clone, Copy)]
 pub enum Decoded {
     Done(Found),
     Refused(u32),

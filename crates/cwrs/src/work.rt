@@ -50,7 +50,7 @@ pub fn icwrs(y: &[i32], n: usize) -> u32
 }
 
 // How many pulses are left, and the counts there: U(n, left) and U(n, left + 1).
-#[derive(Drop)]
+#[derive(Clone, Copy)]
 pub struct Reached {
     pub left: usize,
     pub here: u32,
@@ -85,7 +85,7 @@ fn among(p: u32, i: u32) -> u32
 }
 
 // One place of a vector, and after it how many pulses, which number, and of how many vectors.
-#[derive(Drop)]
+#[derive(Clone, Copy)]
 pub struct Spot {
     pub value: i32,
     pub left: usize,

@@ -1,4 +1,6 @@
 // How many pulse vectors there are: RFC 6716, section 4.3.4.2.
+#![tactic(auto)]
+
 ghost use Rattle.std.specs.Prelude.{◌≡◌, ◌<◌, ◌≤◌, ◌^◌, ltb};
 ghost use Rattle.cwrs_counts.specs.Count.{U, count32};
 

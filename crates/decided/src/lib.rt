@@ -1,1 +1,2 @@
 // Nothing to run: what is shown here is in proofs.
+#![tactic(auto)]

@@ -1,4 +1,6 @@
 // What reader and writer of the range coder share: RFC 6716, sections 4.1 and 5.1.
+#![tactic(auto)]
+
 pub mod table;
 
 ghost use Rattle.std.specs.Prelude.{◌≡◌, ◌≤◌, ◌<◌};
@@ -8,7 +10,7 @@ ghost use Rattle.entcode.specs.Counts.{counts_ok, tell_ok};
 ghost use Rattle.entcode.specs.Refusal.{refusal, last_two};
 
 // How many bits, or eighths of a bit, are used; or the number of the refusal.
-#[derive(Drop)]
+#[derive(Clone, Copy)]
 pub enum TellAnswer {
     Done(u32),
     Refused(u32),

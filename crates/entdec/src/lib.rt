@@ -1,4 +1,6 @@
 // The range decoder of RFC 6716, section 4.1: a state by value, its bytes lent beside it.
+#![tactic(auto)]
+
 ghost use Rattle.std.specs.Prelude.{◌≡◌};
 ghost use Rattle.entcode.specs.Counts.{said_tell, tell_said};
 ghost use Rattle.entcode.specs.Said.{answer};
@@ -16,7 +18,7 @@ pub mod work;
 
 // A reader: the lent length, the next place at the front, how many bytes are taken at the end, the raw bits that wait and how many they
 // are, the bit count, the size of the range, the distance from its top, the quotient kept by the last division, the last byte, the mark.
-#[derive(Drop)]
+#[derive(Clone, Copy)]
 pub struct Reader {
     pub storage: u32,
     pub offs: u32,
@@ -32,21 +34,21 @@ pub struct Reader {
 }
 
 // A value read, and the state after it.
-#[derive(Drop)]
+#[derive(Clone, Copy)]
 pub struct ReadSymbol {
     pub value: u32,
     pub next: Reader,
 }
 
 // What a public read answers: what was read, or the number of the refusal.
-#[derive(Drop)]
+#[derive(Clone, Copy)]
 pub enum ReadAnswer {
     Done(ReadSymbol),
     Refused(u32),
 }
 
 // A new reader, or the number of the refusal.
-#[derive(Drop)]
+#[derive(Clone, Copy)]
 pub enum Started {
     Done(Reader),
     Refused(u32),

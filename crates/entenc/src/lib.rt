@@ -1,4 +1,6 @@
 // The range encoder of RFC 6716, section 5.1: a state by value, its bytes lent beside it.
+#![tactic(auto)]
+
 ghost use Rattle.std.specs.Prelude.{◌≡◌, length};
 ghost use Rattle.entcode.specs.Tell.{tell_of, tell_frac_of};
 ghost use Rattle.entcode.specs.Counts.{said_tell, tell_said};
@@ -17,7 +19,7 @@ pub mod work;
 
 // A writer: the sink, the held byte (256: none) and its run of 255s, the low end and the size of the range, the bit count, the raw bits
 // that wait and how many they are, and whether it is closed.
-#[derive(Drop)]
+#[derive(Clone, Copy)]
 pub struct Writer {
     pub sink: Sink,
     pub rem: u32,
@@ -31,7 +33,7 @@ pub struct Writer {
 }
 
 // What a public write answers: the writer after it, or the number of the refusal.
-#[derive(Drop)]
+#[derive(Clone, Copy)]
 pub enum WriteAnswer {
     Done(Writer),
     Refused(u32),

@@ -20,7 +20,7 @@ fn round_up(val: u32, m: u32) -> u32
 }
 
 // The last number of a message, and how many of its bits count.
-#[derive(Drop)]
+#[derive(Clone, Copy)]
 pub struct Tail {
     pub bits: u32,
     pub end: u32,

@@ -31,7 +31,7 @@ fn put_end(s: Sink, buf: &mut [u8], b: u8) -> Sink
 }
 
 // A sink, with what is left of a window and how many bits of it wait.
-#[derive(Drop)]
+#[derive(Clone, Copy)]
 pub struct Flushed {
     pub sink: Sink,
     pub window: u32,

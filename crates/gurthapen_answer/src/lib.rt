@@ -1,4 +1,6 @@
 // An answer into the lists that a call was lent, family by family. A refusal leaves every list as it was.
+#![tactic(auto)]
+
 pub mod allocation;
 pub mod dec;
 pub mod enc;

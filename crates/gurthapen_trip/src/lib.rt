@@ -1,4 +1,6 @@
 // How a round trip ended, as four numbers into the list that a call was lent.
+#![tactic(auto)]
+
 ghost use Rattle.std.specs.Prelude.{◌≡◌, length};
 ghost use Rattle.entcode.specs.Said.{number};
 ghost use Rattle.trip_call.specs.Outcome.{said};

@@ -5,7 +5,7 @@ ghost use Rattle.laplace.specs.Chain.{first_step, next_step, walk, up_to, past, 
 ghost use Rattle.laplace.specs.Signed.{span_z};
 
 // The places of -i and i begin at fl, f + 1 for each.
-#[derive(Drop)]
+#[derive(Clone, Copy)]
 pub struct Step {
     pub fl: u32,
     pub f: u32,
@@ -13,7 +13,7 @@ pub struct Step {
 }
 
 // A value, by its sign and size, and its places, from fl up to fh.
-#[derive(Drop)]
+#[derive(Clone, Copy)]
 pub struct Span {
     pub neg: bool,
     pub mag: u32,

@@ -1,4 +1,6 @@
 // Laplace values read and written: RFC 6716, section 4.3.2.1.
+#![tactic(auto)]
+
 ghost use Rattle.std.specs.Prelude.{◌≡◌};
 ghost use Rattle.entenc.specs.Write.{wr};
 ghost use Rattle.laplace.specs.Answer.{said_read, reading, after, writing};
@@ -11,28 +13,28 @@ pub mod pairs;
 pub mod work;
 
 // A value read, and the state after it.
-#[derive(Drop)]
+#[derive(Clone, Copy)]
 pub struct LapSym {
     pub value: i32,
     pub next: Reader,
 }
 
 // What a read answers: what was read, or the number of the refusal.
-#[derive(Drop)]
+#[derive(Clone, Copy)]
 pub enum LapRead {
     Done(LapSym),
     Refused(u32),
 }
 
 // The value that counts as written, and the state after it.
-#[derive(Drop)]
+#[derive(Clone, Copy)]
 pub struct LapDone {
     pub value: i32,
     pub next: Writer,
 }
 
 // What a write answers: what was written, or the number of the refusal.
-#[derive(Drop)]
+#[derive(Clone, Copy)]
 pub enum LapWrote {
     Done(LapDone),
     Refused(u32),

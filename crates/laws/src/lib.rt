@@ -1,4 +1,6 @@
 // The small functions that many crates call: differences and powers, bytes as numbers, the i32 edge, and tests of whole lists.
+#![tactic(auto)]
+
 ghost use Rattle.std.specs.Prelude.{◌≡◌, cond, ◌+◌, ◌-◌, ◌^◌, ◌≤◌, ◌<◌, min, max, get_or, nat_abs};
 ghost use Rattle.std.specs.Float.Ieee.Scale.{finite};
 ghost use Rattle.laws.specs.Lists.{every};

@@ -1,4 +1,6 @@
 // The lister: requests from standard input, one a line; answers to standard output. Document 01, "The lister".
+#![tactic(auto)]
+
 mod work;
 
 // Opens, runs, and says in at most one line what failed. The records have no bytes, so nothing is copied.

@@ -9,7 +9,7 @@ use tool_io::{Input, Output};
 use tool_lines::{Pen, Reader, input, output};
 
 // Where the lister stands: how many lines were read, its input, and its text.
-#[derive(Drop)]
+#[derive(Clone, Copy)]
 pub struct State {
     pub number: u32,
     pub reader: Reader,
@@ -17,14 +17,14 @@ pub struct State {
 }
 
 // How many lines were read, and the text, after a reply.
-#[derive(Drop)]
+#[derive(Clone, Copy)]
 pub struct AfterReply {
     pub number: u32,
     pub pen: Pen,
 }
 
 // The lister's input and its output at the end.
-#[derive(Drop)]
+#[derive(Clone, Copy)]
 pub struct Ends {
     pub input: Input,
     pub output: Output,

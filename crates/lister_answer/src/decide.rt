@@ -14,7 +14,7 @@ use rate::gate::numbers_ok;
 use rate::{AllocNumbers, AllocRead};
 
 // The bands from start up to end - 1, none for a line that asks for none, and what reading their allocation says.
-#[derive(Drop)]
+#[derive(Clone, Copy)]
 pub struct Decided {
     pub start: usize,
     pub end: usize,

@@ -1,4 +1,6 @@
 // The lister's work, one request line at a time: document 01, "The lister".
+#![tactic(auto)]
+
 pub mod answer;
 pub mod caps;
 pub mod decide;
@@ -14,21 +16,21 @@ use rate::AllocNumbers;
 pub const ROOM: usize = 1200;
 
 // What a line asks.
-#[derive(Drop)]
+#[derive(Clone, Copy)]
 pub enum Parsed {
     Asks(AllocNumbers),
     Malformed,
 }
 
 // The packet of a line: how many bytes it has.
-#[derive(Drop)]
+#[derive(Clone, Copy)]
 pub enum Packet {
     Bytes(usize),
     Bad,
 }
 
 // What listing answers: how many bytes were written, or the number of the refusal.
-#[derive(Drop)]
+#[derive(Clone, Copy)]
 pub enum Listed {
     Done(usize),
     Refused(u32),

@@ -12,7 +12,7 @@ use modes::energy_model::{decay_in, pair_of, zero_in};
 use modes::prediction::{beta_of, coef_of};
 
 // What a band is decoded with: the places of zero and the decay of its Laplace values, and the two shares of the prediction.
-#[derive(Drop)]
+#[derive(Clone, Copy)]
 pub struct Kind {
     pub zero: u32,
     pub decay: u32,
@@ -21,14 +21,14 @@ pub struct Kind {
 }
 
 // What a channel hands on to the next band, and the reader.
-#[derive(Drop)]
+#[derive(Clone, Copy)]
 pub struct Hand {
     pub hands: f32,
     pub next: Reader,
 }
 
 // What channel 0 and channel 1 hand on, and the reader.
-#[derive(Drop)]
+#[derive(Clone, Copy)]
 pub struct Hands {
     pub first: f32,
     pub second: f32,

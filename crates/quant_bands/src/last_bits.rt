@@ -8,7 +8,7 @@ use entdec::Reader;
 use laws::clipped;
 
 // The bits that are left over, and the reader.
-#[derive(Drop)]
+#[derive(Clone, Copy)]
 pub struct LeftOver {
     pub left: u32,
     pub next: Reader,

@@ -1,4 +1,6 @@
 // The energies of the bands, decoded: quant_bands.rs, unquant_coarse_energy and unquant_energy_finalise; RFC 6716, section 4.3.2.
+#![tactic(auto)]
+
 pub mod coarse_band;
 pub mod edge;
 pub mod gate;
@@ -14,7 +16,7 @@ use entdec::Reader;
 use laws::clipped;
 
 // What a call answers beside the lent energies: the reader after it, or the number of the refusal.
-#[derive(Drop)]
+#[derive(Clone, Copy)]
 pub enum EnergyRead {
     Done(Reader),
     Refused(u32),

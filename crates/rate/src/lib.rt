@@ -1,4 +1,6 @@
 // The bit allocation as a call, reading and writing: rate.rs, clt_compute_allocation; RFC 6716, section 4.3.3.
+#![tactic(auto)]
+
 pub mod begin;
 pub mod edge;
 pub mod gate;
@@ -15,7 +17,7 @@ use laws::clipped;
 use rate_bands::Reserves;
 
 // The numbers of a call as they are handed in: channels, frame size, the bands start..end-1, the trim, and the total in eighth bits.
-#[derive(Drop)]
+#[derive(Clone, Copy)]
 pub struct AllocNumbers {
     pub c: i32,
     pub lm: i32,
@@ -27,7 +29,7 @@ pub struct AllocNumbers {
 
 // What an encoder wishes: the first band whose channels it wants coded as one, whether the bands below it are coded apart (1), and what its choice
 // of skip flags depends on: the band count of the frame before and the signal's bandwidth.
-#[derive(Drop)]
+#[derive(Clone, Copy)]
 pub struct Wishes {
     pub intensity: i32,
     pub dual: i32,
@@ -37,7 +39,7 @@ pub struct Wishes {
 
 // What reading gives beside the lists: how many bands are coded, what the last of them hands on, the first band whose channels are coded as
 // one, whether the bands below it have theirs apart (1), and the reader after the call.
-#[derive(Drop)]
+#[derive(Clone, Copy)]
 pub struct ReadAllocation {
     pub coded: i32,
     pub balance: i32,
@@ -47,7 +49,7 @@ pub struct ReadAllocation {
 }
 
 // The same, written, and the writer after the call.
-#[derive(Drop)]
+#[derive(Clone, Copy)]
 pub struct WrittenAllocation {
     pub coded: i32,
     pub balance: i32,
@@ -57,21 +59,21 @@ pub struct WrittenAllocation {
 }
 
 // What reading answers: the allocation, or the number of the refusal.
-#[derive(Drop)]
+#[derive(Clone, Copy)]
 pub enum AllocRead {
     Done(ReadAllocation),
     Refused(u32),
 }
 
 // What writing answers.
-#[derive(Drop)]
+#[derive(Clone, Copy)]
 pub enum AllocWrote {
     Done(WrittenAllocation),
     Refused(u32),
 }
 
 // What is reserved, what no band has yet, and the highest band that is not skipped.
-#[derive(Drop)]
+#[derive(Clone, Copy)]
 pub struct Begun {
     pub reserves: Reserves,
     pub left: u32,

@@ -1,4 +1,6 @@
 // The pulse cache's lookups: rate.rs, get_pulses, bits2pulses and pulses2bits, for every i32.
+#![tactic(auto)]
+
 ghost use Rattle.std.specs.Prelude.{◌≡◌, ◌&&◌, ◌≤◌, ◌<◌};
 ghost use Rattle.laws.specs.Signs.{clip};
 ghost use Rattle.modes.specs.CacheIndex.{row_start};
@@ -21,7 +23,7 @@ mod packed;
 mod row;
 
 // What a lookup answers: what it found, or the number of the refusal.
-#[derive(Drop)]
+#[derive(Clone, Copy)]
 pub enum LookupAnswer {
     Done(u32),
     Refused(u32),

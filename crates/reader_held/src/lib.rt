@@ -1,6 +1,8 @@
 // A reader that holds the packet's bytes and its place in them, over the calls that take a state by value.
 // Document 01, "Use these forms in these places". The names are the crate's; each function changes the reader that it is lent. Each is proved by a
 // walk of its MIR, which tools/walks writes; what branches stands in `moves`, and `plain` is for callers that hold no reader.
+#![tactic(auto)]
+
 ghost use Rattle.std.specs.Prelude.{◌≡◌};
 ghost use Rattle.entcode.specs.Sym.Shape.{bit, table, uint, raw};
 ghost use Rattle.rate.specs.Question.{lists};
@@ -24,49 +26,49 @@ pub mod moves;
 pub mod plain;
 
 // A reader: the packet, and its numbers.
-#[derive(Drop)]
+#[derive(Clone, Copy)]
 pub struct EcDec<'a> {
     pub buf: &'a [u8],
     pub num: Reader,
 }
 
 // A reader, and 0 or the number of the refusal: an enum may hold no reference.
-#[derive(Drop)]
+#[derive(Clone, Copy)]
 pub struct Opened<'a> {
     pub dec: EcDec<'a>,
     pub code: u32,
 }
 
 // The numbers of a new reader, and 0 or the number of the refusal.
-#[derive(Drop)]
+#[derive(Clone, Copy)]
 pub struct Begun {
     pub num: Reader,
     pub code: u32,
 }
 
 // What a read answers: the value, or the number of the refusal.
-#[derive(Drop)]
+#[derive(Clone, Copy)]
 pub enum Symbol {
     Done(u32),
     Refused(u32),
 }
 
 // An answer, and the numbers after it.
-#[derive(Drop)]
+#[derive(Clone, Copy)]
 pub struct Step {
     pub answer: Symbol,
     pub next: Reader,
 }
 
 // What a read of a Laplace value answers.
-#[derive(Drop)]
+#[derive(Clone, Copy)]
 pub enum Value {
     Done(i32),
     Refused(u32),
 }
 
 // That, and the numbers after it.
-#[derive(Drop)]
+#[derive(Clone, Copy)]
 pub struct ValueStep {
     pub answer: Value,
     pub next: Reader,
@@ -74,7 +76,7 @@ pub struct ValueStep {
 
 // An allocation: how many bands are coded, what the last of them hands on, the first band whose channels are coded as one, and whether the bands
 // below it have theirs apart (1).
-#[derive(Drop)]
+#[derive(Clone, Copy)]
 pub struct Allocation {
     pub coded: i32,
     pub balance: i32,
@@ -83,28 +85,28 @@ pub struct Allocation {
 }
 
 // What reading an allocation answers.
-#[derive(Drop)]
+#[derive(Clone, Copy)]
 pub enum Allocated {
     Done(Allocation),
     Refused(u32),
 }
 
 // That, and the numbers after it.
-#[derive(Drop)]
+#[derive(Clone, Copy)]
 pub struct AllocStep {
     pub answer: Allocated,
     pub next: Reader,
 }
 
 // What reading energies answers: the energies stand in the lent list, or the number of the refusal.
-#[derive(Drop)]
+#[derive(Clone, Copy)]
 pub enum Energies {
     Done,
     Refused(u32),
 }
 
 // That, and the numbers after it.
-#[derive(Drop)]
+#[derive(Clone, Copy)]
 pub struct EnergiesStep {
     pub answer: Energies,
     pub next: Reader,

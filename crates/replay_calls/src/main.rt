@@ -1,5 +1,7 @@
 // Replays requests that stand for themselves, one a line, and answers each with a line: the allocation's lookups, whole allocations, energies and
 // shapes; tools/compare makes them and says their form. The numbers of a request stand in a list l.
+#![tactic(auto)]
+
 mod allocations;
 mod energies;
 mod lookups;

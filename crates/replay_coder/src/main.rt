@@ -1,5 +1,7 @@
 // Replays requests of the range coder, of Laplace values and of pulse words, one a line, and answers with a line each that has an answer; tools/compare
 // makes them and says their form. The numbers of a request stand in a list l.
+#![tactic(auto)]
+
 mod begin;
 mod symbols;
 mod values;
@@ -11,7 +13,7 @@ use replay_io::list::word;
 use replay_io::{input, list, reply};
 
 // Who works on the bytes.
-#[derive(Drop)]
+#[derive(Clone, Copy)]
 pub enum Coder {
     Idle,
     Writing(Writer),
@@ -19,7 +21,7 @@ pub enum Coder {
 }
 
 // The program's state: how many bytes are lent, the table's symbols and their ftb, the pair of Laplace values, and the coder.
-#[derive(Drop)]
+#[derive(Clone, Copy)]
 pub struct State {
     pub lent: usize,
     pub symbols: usize,

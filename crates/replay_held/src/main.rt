@@ -1,6 +1,8 @@
 // Recorded calls answered twice, by the calls by value and by the reader that holds its packet or the record that is lent: one request a line,
 // and two lines for each, which must be alike. tools/compare --record held makes the requests and the answers, and says their form. The numbers of a
 // request stand in a list l: its own at places 0 to 7, the reader at 8 to 18, the packet's length at 19, a list at 20 to 61, and the packet.
+#![tactic(auto)]
+
 mod allocations;
 mod energies;
 mod frames;

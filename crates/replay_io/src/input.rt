@@ -3,7 +3,7 @@ use super::{push, read_some};
 
 // Where the input stands: how long the line in its buffer is, whether its line feed came, the next place in the block that was read
 // last, and how many bytes that has.
-#[derive(Drop)]
+#[derive(Clone, Copy)]
 pub struct Line {
     pub length: usize,
     pub whole: bool,

@@ -1,5 +1,7 @@
 // Lines of numbers, read and written, for the programs that replay recorded answers. A text that is made stands in the first n bytes
 // of a lent buffer. Every function answers every input.
+#![tactic(auto)]
+
 ghost use Rattle.std.specs.Prelude.{◌≡◌, [], ◌∷◌, length, take};
 ghost use Rattle.io.specs.Counts.{IsPrefixLen};
 ghost use Rattle.text.specs.Written.{decimal_of};

@@ -5,7 +5,7 @@ use text::Number;
 use text::read::number;
 
 // A number of a line and the place after it.
-#[derive(Drop)]
+#[derive(Clone, Copy)]
 pub struct Entry {
     pub value: i32,
     pub next: usize,

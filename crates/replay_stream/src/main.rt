@@ -6,6 +6,8 @@
 //   N           a fresh record
 //   T           the record's next number becomes the sum of two numbers
 //   X           an energy, by its place, becomes a NaN (0), an infinity (1) or the negative one (2)
+#![tactic(auto)]
+
 ghost use Rattle.std.specs.Prelude.{◌≤◌, length};
 
 use entdec::Reader;

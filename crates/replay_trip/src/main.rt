@@ -2,6 +2,8 @@
 // letter and numbers, each after a blank: the storage, the byte that fills it, ten whole numbers (C, LM, start, end, trim, total, intensity, dual
 // stereo, previous band count, bandwidth), 21 boosts and 21 caps, the number of table entries and the entries, then five numbers for each
 // symbol. Whole numbers are counted: 0, -1, 1, -2, 2, .. as 0, 1, 2, 3, 4, ..
+#![tactic(auto)]
+
 mod numbers;
 mod say;
 

@@ -1,5 +1,7 @@
 // The stream record: the energies of the frame before, and the number of the frame that comes next.
 // Document 01, "Energies, shapes and the stream record".
+#![tactic(auto)]
+
 ghost use Rattle.std.specs.Prelude.{◌≡◌};
 ghost use Rattle.stream.specs.Frame.{fresh, order_of, ordered, call, framed};
 
@@ -10,7 +12,7 @@ pub mod work;
 
 // 42 energies, channel 1 from place 21 on, and the number of the frame that comes next. The number is a u64, so that one past 4,294,967,295
 // can be handed in, and is refused.
-#[derive(Drop)]
+#[derive(Clone, Copy)]
 pub struct Record {
     pub energies: [f32; 42],
     pub next: u64,
@@ -18,7 +20,7 @@ pub struct Record {
 
 // What a frame answers: code 0, the record and the reader after it; or the number of the refusal, and both as they were. (An enum may hold no
 // array.)
-#[derive(Drop)]
+#[derive(Clone, Copy)]
 pub struct Framed {
     pub code: u32,
     pub rec: Record,

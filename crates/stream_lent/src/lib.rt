@@ -1,6 +1,8 @@
 // The stream record for callers that lend it and keep it where it is, over the frame call that takes it by value.
 // Document 01, "Energies, shapes and the stream record". What is lent is proved by a walk of its MIR, which tools/walks writes; what branches stands in
 // `moves`, and `plain` is for callers that lend nothing.
+#![tactic(auto)]
+
 ghost use Rattle.std.specs.Prelude.{◌≡◌, ℕ};
 ghost use Rattle.stream.specs.Frame.{call, framed};
 ghost use Rattle.entcode.specs.Said.Said.{refused};
@@ -13,14 +15,14 @@ pub mod moves;
 pub mod plain;
 
 // What a frame on a lent record answers: the reader after it, or the number of the refusal.
-#[derive(Drop)]
+#[derive(Clone, Copy)]
 pub enum Applied {
     Done(Reader),
     Refused(u32),
 }
 
 // That, and the record after it.
-#[derive(Drop)]
+#[derive(Clone, Copy)]
 pub struct AppliedStep {
     pub answer: Applied,
     pub rec: Record,

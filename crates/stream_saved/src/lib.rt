@@ -1,6 +1,8 @@
 // A stream record as a line of text, and back. Document 01, "Energies, shapes and the stream record".
 //   E, the next number, 42 energies as eight lowercase hex digits of their bits; written and read.
 //   Q, the next number, 42 whole numbers in 256ths; read only.
+#![tactic(auto)]
+
 ghost use Rattle.std.specs.Prelude.{◌≡◌};
 ghost use Rattle.stream_saved.specs.Lines.{after, saving, restoring};
 
@@ -11,7 +13,7 @@ pub mod reads;
 pub mod writes;
 
 // What a field of a line says: a finite energy, one that is not finite, or nothing that the line's kind allows there.
-#[derive(Drop)]
+#[derive(Clone, Copy)]
 pub enum Energy {
     Is(f32),
     Wild,
@@ -19,7 +21,7 @@ pub enum Energy {
 }
 
 // What the fields of a line say so far: whether none is wrong, whether none is wild, and the energies.
-#[derive(Drop)]
+#[derive(Clone, Copy)]
 pub struct Fields {
     pub good: bool,
     pub tame: bool,
@@ -27,14 +29,14 @@ pub struct Fields {
 }
 
 // What saving answers: the line's length, or the number of the refusal.
-#[derive(Drop)]
+#[derive(Clone, Copy)]
 pub enum Saved {
     Done(usize),
     Refused(u32),
 }
 
 // What restoring answers: code 0 and the record, or the number of the refusal and a record that every call refuses. (An enum may hold no array.)
-#[derive(Drop)]
+#[derive(Clone, Copy)]
 pub struct Restored {
     pub code: u32,
     pub rec: Record,

@@ -3,7 +3,7 @@ ghost use Rattle.std.specs.Prelude.{◌≡◌, ◌≤◌, length, take};
 ghost use Rattle.text.specs.Lines.{push_of, Filled};
 
 // How far a block was taken: the place after what was taken, how many bytes of the line are kept, and whether it has ended.
-#[derive(Drop)]
+#[derive(Clone, Copy)]
 pub struct Filling {
     pub at: usize,
     pub kept: usize,

@@ -1,1 +1,2 @@
 // What holds between calls of different crates: specs and proofs. There is nothing to run.
+#![tactic(auto)]

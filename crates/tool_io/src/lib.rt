@@ -3,6 +3,8 @@
 // what is read or written is also copied there while there is room. A program lends slices of no bytes, and nothing is copied. Beside a record
 // the caller lends the count of the calls made, a slice of one number; an input and an output have the same number inside, so each value of
 // them serves for one call: with an old one, a second call's `requires` is false.
+#![tactic(auto)]
+
 ghost use Rattle.std.specs.Prelude.{◌≡◌, ◌+◌, ◌%◌, ◌^◌, ◌<◌, ◌≤◌, true, [], ◌∷◌, ◌++◌, length, take, nat_lt};
 ghost use Rattle.tool_io.specs.Moved.{Noted, OneRead, OneWrite, NewInput, NewOutput};
 
@@ -10,7 +12,7 @@ use libc::{STDERR_FILENO, STDIN_FILENO, STDOUT_FILENO};
 
 // An input: its number, the bytes in its record, whether they are all that was read, whether its end was seen, whether a read failed, and the
 // calls made. Only this file can make one or look inside.
-#[derive(Drop)]
+#[derive(Clone, Copy)]
 pub struct Input {
     fd: i32,
     logged: usize,
@@ -21,7 +23,7 @@ pub struct Input {
 }
 
 // The output, in the same way.
-#[derive(Drop)]
+#[derive(Clone, Copy)]
 pub struct Output {
     logged: usize,
     complete: bool,
@@ -30,14 +32,14 @@ pub struct Output {
 }
 
 // The bytes that a read put at the start of the block, and the input after it.
-#[derive(Drop)]
+#[derive(Clone, Copy)]
 pub struct BlockRead {
     pub n: usize,
     pub input: Input,
 }
 
 // The bytes in a record after a call, and whether they are all that was moved.
-#[derive(Drop)]
+#[derive(Clone, Copy)]
 pub struct Note {
     pub logged: usize,
     pub complete: bool,
@@ -97,7 +99,7 @@ pub fn complain(message: &[u8]) {
 
 // Turns of a loop that reads to the end of its input: nothing says that the input ends, so they are counted, more than any input needs. Only
 // this file can make a count or look inside.
-#[derive(Drop)]
+#[derive(Clone, Copy)]
 pub struct Turns {
     remaining: u64,
 }

@@ -4,7 +4,7 @@ ghost use Rattle.laplace.specs.Model.{code_of, value_at};
 ghost use Rattle.trip_call.specs.Given.{given_at, given_ok, givens_ok, refusal_given};
 
 // A symbol: its kind, the count of its value, and up to three numbers that the kind has.
-#[derive(Drop)]
+#[derive(Clone, Copy)]
 pub struct Given {
     pub kind: u32,
     pub count: u32,

@@ -1,4 +1,6 @@
 // Document 01's third demand, run: symbols and an allocation are written, closed, read back and compared.
+#![tactic(auto)]
+
 ghost use Rattle.std.specs.Prelude.{◌≡◌};
 ghost use Rattle.entcode.specs.Said.{answer};
 ghost use Rattle.trip_call.specs.Given.{refusal_given, symbols_of};
@@ -16,7 +18,7 @@ pub mod shares;
 pub mod writes;
 
 // A call of the writer: the new writer, the symbol at a place, the allocation, the close.
-#[derive(Drop)]
+#[derive(Clone, Copy)]
 pub enum Call {
     New,
     Symbol(usize),
@@ -25,7 +27,7 @@ pub enum Call {
 }
 
 // How a trip ends: the reader agreed, the writer was refused by a call with a number, close reported an error, or the reader did not agree.
-#[derive(Drop)]
+#[derive(Clone, Copy)]
 pub enum Outcome {
     Agreed,
     Refused(Call, u32),
@@ -34,7 +36,7 @@ pub enum Outcome {
 }
 
 // What the call answers: how the trip ended, or the number of the refusal where what is lent is no list of symbols.
-#[derive(Drop)]
+#[derive(Clone, Copy)]
 pub enum Trip {
     Done(Outcome),
     Refused(u32),

@@ -11,14 +11,14 @@ use entdec::{ReadAnswer, Reader};
 use laplace::LapRead;
 
 // The count of the value read, and the reader after it.
-#[derive(Drop)]
+#[derive(Clone, Copy)]
 pub struct ReadCount {
     pub count: u32,
     pub next: Reader,
 }
 
 // What a read answers: what was read, or the number of the refusal.
-#[derive(Drop)]
+#[derive(Clone, Copy)]
 pub enum SymbolRead {
     Done(ReadCount),
     Refused(u32),

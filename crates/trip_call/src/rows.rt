@@ -21,7 +21,7 @@ use entdec::Reader;
 use entenc::Writer;
 
 // The writer after a row, or the place and the number of the refusal.
-#[derive(Drop)]
+#[derive(Clone, Copy)]
 pub enum RowWrote {
     Done(Writer),
     Refused(usize, u32),
@@ -52,14 +52,14 @@ pub fn write_row(w: Writer, buf: &mut [u8], symbols: &[u32], tables: &[u8]) -> R
 }
 
 // A writer and a reader that agree.
-#[derive(Drop)]
+#[derive(Clone, Copy)]
 pub struct Pair {
     pub writer: Writer,
     pub reader: Reader,
 }
 
 // Both after a row in which they agreed, or that they differ.
-#[derive(Drop)]
+#[derive(Clone, Copy)]
 pub enum Pairs {
     Same(Pair),
     Differs,

@@ -12,14 +12,14 @@ use entenc::{WriteAnswer, Writer};
 use laplace::LapWrote;
 
 // The count of the value that counts as written, and the writer after it.
-#[derive(Drop)]
+#[derive(Clone, Copy)]
 pub struct WrittenCount {
     pub count: u32,
     pub next: Writer,
 }
 
 // What a write answers: what was written, or the number of the refusal.
-#[derive(Drop)]
+#[derive(Clone, Copy)]
 pub enum SymbolWrote {
     Done(WrittenCount),
     Refused(u32),

@@ -1,1 +1,2 @@
 // What an encoder wrote a decoder reads, and both come to the same bit allocation.
+#![tactic(auto)]

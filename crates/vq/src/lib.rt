@@ -1,4 +1,6 @@
 // Shapes of bands from their pulse words, without rotation: vq.rs; RFC 6716, section 4.3.4.
+#![tactic(auto)]
+
 ghost use Rattle.std.specs.Prelude.{◌≡◌};
 ghost use Rattle.vq.specs.Answer.{shape_request, after, unquantised};
 
@@ -9,14 +11,14 @@ pub mod root;
 pub mod work;
 
 // What reading a shape gives beside it: which parts of the band hold a pulse, and the reader after it.
-#[derive(Drop)]
+#[derive(Clone, Copy)]
 pub struct ReadShape {
     pub mask: u32,
     pub next: Reader,
 }
 
 // What the call answers: what was read, or the number of the refusal.
-#[derive(Drop)]
+#[derive(Clone, Copy)]
 pub enum Shaped {
     Done(ReadShape),
     Refused(u32),

@@ -3,7 +3,7 @@ ghost use Rattle.std.specs.Prelude.{◌≡◌, ◌≤◌, ◌<◌, ◌^◌};
 ghost use Rattle.vq.specs.Root.{Scaling, Floor, Near, root_of};
 
 // A number times a power of 4, and which power.
-#[derive(Drop)]
+#[derive(Clone, Copy)]
 pub struct Scaled {
     pub v: u64,
     pub j: u32,
