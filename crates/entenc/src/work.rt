@@ -9,7 +9,7 @@ ghost use Rattle.entenc.specs.Ready.{Renormalizing, Ready};
 
 use super::Writer;
 use entenc_sink::Sink;
-use entenc_sink::front::{carry, held_by_lem, run_by};
+use entenc_sink::front::{carry, held_by, run_by};
 use laws::{pow2, wide};
 
 // Where the places from fl of ft begin in a range.
@@ -52,7 +52,7 @@ impl Writer {
             error: t.error,
         };
         self.sink = fresh;
-        self.rem = held_by_lem(self.rem, c);
+        self.rem = held_by(self.rem, c);
         self.ext = run_by(self.ext, c);
         self.val = self.val % 8388608 * 256;
         self.rng = self.rng * 256;

@@ -71,7 +71,7 @@ pub fn carry(s: Sink, buf: &mut [u8], rem: u32, ext: u32, c: u32) -> Sink
 }
 
 // The byte held after c.
-pub fn held_by_lem(rem: u32, c: u32) -> u32
+pub fn held_by(rem: u32, c: u32) -> u32
     ensures { result ≡ held_by rem c }
 {
     if c == 255 { rem } else { c % 256 }

@@ -90,7 +90,7 @@ fn mark_at(state: &[i64], i: usize) -> bool
 }
 
 // Whether the number of a writer's held byte is one.
-fn held_fits_lem(state: &[i64]) -> bool
+fn held_fits(state: &[i64]) -> bool
     requires { length state.now ≡ 12 }
     ensures { result ≡ held_fits (entry state.now 9) }
 {
@@ -120,7 +120,7 @@ fn writer_fits(state: &[i64]) -> bool
     requires { length state.now ≡ 12 }
     ensures { result ≡ writer_fits state.now }
 {
-    nine_fit(state) & held_fits_lem(state)
+    nine_fit(state) & held_fits(state)
 }
 
 // A reader whose numbers fit.

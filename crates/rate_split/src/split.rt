@@ -46,7 +46,7 @@ fn wanted_of(x: u32, den: u32) -> u32
 }
 
 // At most what b bits pay for, and at most 8.
-fn fine_of_lem(c: u32, b: u32, e: u32) -> u32
+fn fine_of(c: u32, b: u32, e: u32) -> u32
     requires { (1 ≤ c) × (c ≤ 2) × (e ≤ 536870911) }
     ensures { (result ≡ min 8 (cond (ltb (b / 8) (c * e)) (b / (8 * c)) e)) × (result ≤ 8) }
 {
@@ -111,7 +111,7 @@ fn wide_of(c: u32, n: u32, den: u32, lg: u32, b: u32, excess: u32, balance: u32)
     ensures { (as_band result ≡ spill c (b - 8 * c * fine_of c n den lg b) (fine_of c n den lg b) (prio_of c n den lg b) excess balance) × (result.prio ≤ 1) }
 {
     let x = with_offset(b, n, den, lg);
-    let e = fine_of_lem(c, b, wanted_of(x, den));
+    let e = fine_of(c, b, wanted_of(x, den));
     let p = prio_of(x, den, e);
     spill_of(c, b - 8 * c * e, e, p, excess, balance)
 }

@@ -37,7 +37,7 @@ returns c =
     let start = at-carry.before.before.before.before.before in
     let a = start.args in
     let k = at-carry.carry in
-    shift_is (wr a.self a.buf.now) (out k.result k.new.1.0) _ _ k.ensures at-held-by.held_by_lem.ensures
+    shift_is (wr a.self a.buf.now) (out k.result k.new.1.0) _ _ k.ensures at-held-by.held_by.ensures
     c.before.before.before.run_by.ensures
 
 pub shift-spec : {M : Type 1} → statement M

@@ -1,7 +1,7 @@
 -- `entenc_sink::front::held_by`: by whether c is 255. Assumes nothing.
 use borrow.Author.Tests.{eq-eqb, ne_eqb}
-use Rattle.entenc_sink.proofs.front.held_by_lem.Statement.{statement}
-use Rattle.entenc_sink.proofs.front.held_by_lem.Tie as tie
+use Rattle.entenc_sink.proofs.front.held_by.Statement.{statement}
+use Rattle.entenc_sink.proofs.front.held_by.Tie as tie
 
 returns : tie.Need-returns
 returns c = simp (eq-eqb _ _ c.if1.true)

@@ -10,7 +10,7 @@ held-fits-requires : tie.Need-held-fits-requires
 held-fits-requires c κs = search rules
 
 returns : tie.Need-returns
-returns c = rw (c.before.nine-fit.ensures, c.held_fits_lem.ensures)
+returns c = rw (c.before.nine-fit.ensures, c.held_fits.ensures)
 
 pub writer-fits-spec : {M : Type 1} → statement M
 writer-fits-spec =

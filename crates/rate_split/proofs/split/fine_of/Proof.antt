@@ -4,8 +4,8 @@ use native.Mathlib.Nat.{mul-le-mul, min-le_left}
 use native.Mathlib.Omega.{arith}
 use borrow.Author.Tests.{lt-ltb, le-ltb}
 use borrow.Author.Rules.{rules}
-use Rattle.rate_split.proofs.split.fine_of_lem.Statement.{statement}
-use Rattle.rate_split.proofs.split.fine_of_lem.Tie as tie
+use Rattle.rate_split.proofs.split.fine_of.Statement.{statement}
+use Rattle.rate_split.proofs.split.fine_of.Tie as tie
 
 mul-if1 : tie.Need-overflow-mul-if1
 mul-if1 c = omega (arith, mul-le-mul {n₂ = 2} {m₂ = 536870911} c.requires.1 c.requires.2)

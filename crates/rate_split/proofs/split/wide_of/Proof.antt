@@ -26,14 +26,14 @@ mul-spill-of-2 : tie.Need-overflow-mul-spill-of-2
 mul-spill-of-2 c = omega (
   arith,
   mul-le-mul {n₁ = 8 * c.before.before.before.before.args.c} {n₂ = 16} {m₂ = 8} (omega arith)
-      c.before.fine_of_lem.ensures.1,
+      c.before.fine_of.ensures.1,
 )
 
 sub-spill-of : tie.Need-overflow-sub-spill-of
 sub-spill-of c =
     let f = c.before in
     let a = f.before.before.before.args in
-    fine-paid a.c a.n a.den a.lg a.b f.before.before.with-offset.ensures f.before.wanted-of.ensures.0 f.fine_of_lem.ensures.0
+    fine-paid a.c a.n a.den a.lg a.b f.before.before.with-offset.ensures f.before.wanted-of.ensures.0 f.fine_of.ensures.0
 
 spill-of-requires : tie.Need-spill-of-requires
 spill-of-requires c κs = search rules
@@ -44,7 +44,7 @@ returns c =
     let a = f.before.before.before.args in
     let x = f.before.before.with-offset.ensures in
     let w = f.before.wanted-of.ensures.0 in
-    let e = f.fine_of_lem.ensures.0 in (
+    let e = f.fine_of.ensures.0 in (
       rw (← fine-is a.c a.n a.den a.lg a.b x w e, ← prio-is a.c a.n a.den a.lg a.b x w e c.before.prio-of.ensures.0)
           c.spill-of.ensures.0,
       c.spill-of.ensures.1,
