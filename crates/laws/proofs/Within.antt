@@ -108,6 +108,7 @@ round-signed f n d = units-signed f _ _
 -- below a value that is exactly a
 pub le-within : (x y : Float) (a : ℕ) → Signed false x → HasValue y false a 1 → T (le x y) → Within x a 1
 unfolding le lt eq
+le-within nan y a s v t = elim s [ ]
 le-within (inf true) y a s v t = absurd (true≢false s)
 le-within (inf false) nan a s v t = absurd v
 le-within (inf false) (inf u) a s v t = absurd v
@@ -185,6 +186,10 @@ sum-within s t A B C a c h w = go (beq s t) (ltb A B)
 -- the bounds add
 pub add-within : (x y : Float) (a b : ℕ) → Within x a 1 → Within y b 1 → Whole (a + b) → Within (add binary32 x y) (a + b) 1
 unfolding add
+add-within nan y a b h k w = elim h [ ]
+add-within (inf _) y a b h k w = elim h [ ]
+add-within (fin s m e) nan a b h k w = elim k [ ]
+add-within (fin s m e) (inf _) a b h k w = elim k [ ]
 add-within (fin s m e) (fin t n d) a b h k w =
     sum-within s t (m * up e * down d) (n * up d * down e) (down e * down d) (a + b) (mul-pos (down_pos e) (down_pos d))
     (let p : m * up e * down d ≤ a * (down e * down d) = scale-le (m * up e) (down e) a (down d) h in
@@ -202,6 +207,10 @@ sub_within x y a b h k w = add-within x (neg y) a b h (within-neg y b 1 k) w
 -- the bounds multiply
 pub mul-within : (x y : Float) (a b c r : ℕ) → 0 < c → Within x a c → Within y b 1 → a * b ≤ r * c → Whole r → Within (mul binary32 x y) r 1
 unfolding mul
+mul-within nan y a b c r C h k l w = elim h [ ]
+mul-within (inf _) y a b c r C h k l w = elim h [ ]
+mul-within (fin s m e) nan a b c r C h k l w = elim k [ ]
+mul-within (fin s m e) (inf _) a b c r C h k l w = elim k [ ]
 mul-within (fin s m e) (fin t n d) a b c r C h k l w =
     round-within (unlike s t) (m * up e * (n * up d)) (down e * down d) r (mul-pos (down_pos e) (down_pos d))
     (le_of_mul-le-mul_right

@@ -1,0 +1,19 @@
+-- `rate_split::bands::split_skipped`: the loop has filled the lists up to j. Assumes nothing.
+use Prim.Native.Nat.{◌-◌, ◌≤◌}
+use mathlib.Core.Path.{◌≡◌}
+use lib.IntN.{pos}
+use lib.ListN.{get_or}
+use Rattle.laws.specs.Lists.{fill}
+use Rattle.rate_spec.specs.Alloc.{skipped}
+use Rattle.rate_bands.specs.Inputs.{bare}
+use Rattle.rate_split.proofs.bands.split_skipped.Given as goal
+
+abbrev pub invariant-loop-j : goal.invariant-loop-j
+invariant-loop-j l =
+    (l.coded ≤ l.j) × (l.j ≤ l.f.end)
+    × (l.pulses ≡ fill (λ i. pos (skipped (bare l.f) (get_or l.kept i 0)).pulses) l.coded (l.j - l.coded) l.initial.pulses)
+    × (l.fine ≡ fill (λ i. pos (skipped (bare l.f) (get_or l.kept i 0)).fine) l.coded (l.j - l.coded) l.initial.fine)
+    × (l.prios ≡ fill (λ i. pos (skipped (bare l.f) (get_or l.kept i 0)).prio) l.coded (l.j - l.coded) l.initial.prios)
+
+abbrev pub decreases-loop-j : goal.decreases-loop-j
+decreases-loop-j l = l.f.end - l.j
