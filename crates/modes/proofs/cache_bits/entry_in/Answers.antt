@@ -1,0 +1,18 @@
+-- `modes::cache_bits::entry_in`: the lent table is the definition's list, and every entry of that is a byte. Assumes nothing.
+use Prim.Native.Nat.{◌+◌}
+use mathlib.Core.Path.{ap}
+use native.Mathlib.Omega.{arith}
+use lib.ListN.{length}
+use Rattle.modes.specs.CacheBits.{row_entry}
+use Rattle.modes.proofs.Entries.{lent, read}
+use Rattle.modes.proofs.CacheRule.{cache_bits-length, row-entry-most}
+use Rattle.modes.proofs.cache_bits.entry_in.Goals as goal
+
+pub bounds-t-start : goal.bounds-t-start
+bounds-t-start c = omega (arith, ap length c.requires.0, cache_bits-length)
+
+pub returns : goal.returns
+unfolding row_entry
+returns c =
+    let a = c.args in
+    read (lent (a.start + a.i) c.requires.0 c.wide.ensures.0) (row-entry-most a.start a.i)
