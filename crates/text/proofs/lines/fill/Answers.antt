@@ -1,0 +1,33 @@
+-- `text::lines::fill`: the invariant: what is kept and what remains of the block give the lines that the whole block gives. Assumes nothing.
+use mathlib.Core.Path.{◌∙◌}
+use native.Mathlib.Omega.{arith}
+use lib.ListN.{length, take}
+use Rattle.text.proofs.Blocks.{filled-at-feed, same-after-byte}
+use Rattle.text.proofs.lines.fill.Goals as goal
+
+pub returns-then-b-eq10 : goal.returns-then-b-eq10
+returns-then-b-eq10 c =
+    let a = c.args in
+    let l = c.loop-i in
+    filled-at-feed (length a.buf.now) (take l.k l.buf) (take a.n a.buf.now) a.block.now l.i a.at l.k
+    c.loop-i-test.true
+    c.if-b-eq10.true l.invariant.2 l.invariant.1 l.invariant.4
+
+pub loop-i-preserved : goal.loop-i-preserved
+loop-i-preserved c =
+    let at-if1 = c in
+    let at-loop-test = at-if1 in
+    let at-loop = at-loop-test in
+    let start = at-loop in
+    let a = start.args in
+    let l = at-loop.loop-i in
+    let p = c.push-k in
+    let s = a.block.now in (
+      p.auto.0 ∙ l.invariant.0,
+      omega (arith, p.ensures.1, l.invariant.0),
+      omega arith,
+      omega arith,
+      same-after-byte (length a.buf.now) (take l.k l.buf) (take a.n a.buf.now) s l.i a.at p.ensures.0 l.invariant.0
+          at-loop-test.loop-i-test.true
+          at-if1.if-b-eq10.false l.invariant.4,
+    )
