@@ -1,0 +1,11 @@
+-- `cwrs_counts::stored::held`: a row has a place exactly when its count fits. Assumes nothing.
+use Prim.Native.Nat.{ℕ}
+use mathlib.Core.Path.{ap, ◌∙◌}
+use lib.Dec.{ltb}
+use Rattle.cwrs_counts.proofs.Table.{held_iff}
+use Rattle.cwrs_counts.proofs.stored.held.Goals as goal
+
+pub returns : goal.returns
+returns c =
+    let b = c in
+    ap (λ (x : ℕ). ltb b.args.b x) c.length_of.ensures ∙ held_iff b.args.a b.args.b b.requires.0 b.requires.1
