@@ -18,5 +18,5 @@ unfolding width
 returns c =
     let j = c.args.j in
     let h = c.requires in
-    let e : c.Edge-of.result - c.edge_of-2.result ≡ width j = omega (arith, ap edge (add-one j)) in
+    let e : c.edge_of.result - c.edge_of-2.result ≡ width j = omega (arith, ap edge (add-one j)) in
     read_between e (width_some j h) (width-most j)
