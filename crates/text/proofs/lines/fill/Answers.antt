@@ -23,7 +23,7 @@ loop-i-preserved c =
     let l = at-loop.loop-i in
     let p = c.push-k in
     let s = a.block.now in (
-      p.auto.0 ∙ l.invariant.0,
+      p.auto.buf ∙ l.invariant.0,
       omega (arith, p.ensures.1, l.invariant.0),
       omega arith,
       omega arith,
