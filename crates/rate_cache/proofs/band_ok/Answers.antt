@@ -1,0 +1,9 @@
+-- `rate_cache::band_ok`: both tests. Assumes nothing.
+use Rattle.rate_cache.specs.Lookups.{band_ok}
+use Rattle.rate_cache.proofs.band_ok.Goals as goal
+
+pub returns : goal.returns
+unfolding band_ok
+returns c =
+    let s = c in
+    rw (c.in_range-2.ensures, c.in_range.ensures)

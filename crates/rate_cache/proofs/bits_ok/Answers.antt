@@ -1,0 +1,7 @@
+-- `rate_cache::bits_ok`: the test. Assumes nothing.
+use Rattle.rate_cache.specs.Lookups.{bits_ok}
+use Rattle.rate_cache.proofs.bits_ok.Goals as goal
+
+pub returns : goal.returns
+unfolding bits_ok
+returns c = rw c.in_range.ensures
