@@ -1,5 +1,6 @@
-// Standard input and standard output with a record of what was moved. A program that names this crate and neither io nor libc can
-// read and write in no other way, so what its contracts say of the records it says of the bytes. A record is a slice that the caller lends:
+// Standard input and standard output with a record of what was moved. To read or write takes a handle of the system, which `main` is given and hands to
+// this crate alone: a function that has an input and an output of this crate, and no handle, can read and write in no other way, so what its contracts
+// say of the records it says of the bytes. A record is a slice that the caller lends:
 // what is read or written is also copied there while there is room. A program lends slices of no bytes, and nothing is copied. Beside a record
 // the caller lends the count of the calls made, a slice of one number; an input and an output have the same number inside, so each value of
 // them serves for one call: with an old one, a second call's `requires` is false.
@@ -8,13 +9,13 @@
 ghost use Rattle.std.specs.Prelude.{◌≡◌, ◌+◌, ◌%◌, ◌^◌, ◌<◌, ◌≤◌, true, [], ◌∷◌, ◌++◌, length, take, nat_lt};
 ghost use Rattle.tool_io.specs.Moved.{Noted, OneRead, OneWrite, NewInput, NewOutput};
 
-use libc::{STDERR_FILENO, STDIN_FILENO, STDOUT_FILENO};
+use std::io::{Print, Read, Stdin, Stdout};
 
-// An input: its number, the bytes in its record, whether they are all that was read, whether its end was seen, whether a read failed, and the
+// An input: its handle, the bytes in its record, whether they are all that was read, whether its end was seen, whether a read failed, and the
 // calls made. Only this file can make one or look inside.
 #[derive(Clone, Copy)]
 pub struct Input {
-    fd: i32,
+    handle: Stdin,
     logged: usize,
     complete: bool,
     ended: bool,
@@ -25,6 +26,7 @@ pub struct Input {
 // The output, in the same way.
 #[derive(Clone, Copy)]
 pub struct Output {
+    handle: Stdout,
     logged: usize,
     complete: bool,
     failed: bool,
@@ -46,11 +48,11 @@ pub struct Note {
 }
 
 // Standard input, before its first byte.
-pub fn stdin() -> Input
+pub fn stdin(rt: &HostRuntime) -> Input
     ensures { NewInput result }
 {
     Input {
-        fd: STDIN_FILENO,
+        handle: rt.stdin(),
         logged: 0,
         complete: true,
         ended: false,
@@ -60,10 +62,11 @@ pub fn stdin() -> Input
 }
 
 // Standard output, before its first byte.
-pub fn stdout() -> Output
+pub fn stdout(rt: &HostRuntime) -> Output
     ensures { NewOutput result }
 {
     Output {
+        handle: rt.stdout(),
         logged: 0,
         complete: true,
         failed: false,
@@ -93,8 +96,8 @@ pub fn write_failed(s: Output) -> bool
 }
 
 // Hands a message to standard error.
-pub fn complain(message: &[u8]) {
-    io::write_all(STDERR_FILENO, message);
+pub fn complain(rt: &HostRuntime, message: &[u8]) {
+    let _ = rt.stderr().write_all(message);
 }
 
 // Turns of a loop that reads to the end of its input: nothing says that the input ends, so they are counted, more than any input needs. Only
@@ -134,6 +137,7 @@ pub fn give_up(t: Turns, s: Output) -> Output
     ensures { result.failed ≡ true }
 {
     Output {
+        handle: s.handle,
         logged: s.logged,
         complete: s.complete,
         failed: true,
@@ -190,12 +194,12 @@ pub fn read_block(block: &mut [u8], log: &mut [u8], calls: &mut [u64], s: Input)
     ensures { OneRead s log.old result block.new log.new calls.new }
 {
     let made = count_call(calls, s.calls);
-    let got = libc::read(s.fd, block);
-    if got < 0 {
+    let mut handle = s.handle;
+    let Ok(n) = handle.read(block) else {
         return BlockRead {
             n: 0,
             input: Input {
-                fd: s.fd,
+                handle,
                 logged: s.logged,
                 complete: s.complete,
                 ended: s.ended,
@@ -203,13 +207,12 @@ pub fn read_block(block: &mut [u8], log: &mut [u8], calls: &mut [u64], s: Input)
                 calls: made,
             },
         };
-    }
-    let n = io::count(got, block);
+    };
     let k = noted(log, s.logged, s.complete, &block[..n]);
     BlockRead {
         n,
         input: Input {
-            fd: s.fd,
+            handle,
             logged: k.logged,
             complete: k.complete,
             ended: n == 0,
@@ -225,10 +228,12 @@ pub fn write_text(text: &[u8], log: &mut [u8], calls: &mut [u64], s: Output) -> 
     ensures { OneWrite s log.old text.now result log.new calls.new }
 {
     let made = count_call(calls, s.calls);
-    let ok = io::write_all(STDOUT_FILENO, text);
+    let handle = s.handle;
+    let ok = handle.write_all(text).is_ok();
     let k = noted(log, s.logged, s.complete, text);
     let bad = s.failed | !ok;
     Output {
+        handle,
         logged: k.logged,
         complete: k.complete,
         failed: bad,
