@@ -17,7 +17,7 @@ unfolding count32
 count_large n k h = rw (le-ltb (Vn n k) 4294967296 h)
 
 small : (c : Then-fits) → U c.args.n (c.args.k + 1) < 4294967296
-small c = ltb-true _ _ (sym c.fits2.ensures ∙ c.if-fits.true)
+small c = ltb-true _ _ (sym c.fits.ensures ∙ c.if-fits.true)
 
 pub pvq_u-a-requires : goal.pvq_u-a-requires
 pvq_u-a-requires c =
@@ -37,5 +37,5 @@ returns-else-a-b c =
 pub returns-else-fits : goal.returns-else-fits
 returns-else-fits c =
     let a = c.args in
-    let l = ltb-false (U a.n (a.k + 1)) 4294967296 (sym c.fits2.ensures ∙ c.if-fits.false) in
+    let l = ltb-false (U a.n (a.k + 1)) 4294967296 (sym c.fits.ensures ∙ c.if-fits.false) in
     count_large a.n a.k (omega (arith, V_is' a.n a.k))
