@@ -4,7 +4,7 @@
 mod work;
 
 // Opens, runs, and says in at most one line what failed. The records have no bytes, so nothing is copied.
-fn main() {
+fn main(rt: HostRuntime) {
     let mut block = [0u8; 65536];
     let mut text = [0u8; 65536];
     let mut kept = [0u8; 2601];
@@ -20,14 +20,14 @@ fn main() {
         &mut sent,
         &mut reads,
         &mut writes,
-        tool_io::stdin(),
-        tool_io::stdout(),
+        tool_io::stdin(&rt),
+        tool_io::stdout(&rt),
     );
     if tool_io::read_failed(end.input) {
-        tool_io::complain(b"lister: standard input cannot be read\n");
+        tool_io::complain(&rt, b"lister: standard input cannot be read\n");
         return;
     }
     if tool_io::write_failed(end.output) {
-        tool_io::complain(b"lister: standard output cannot be written\n");
+        tool_io::complain(&rt, b"lister: standard output cannot be written\n");
     }
 }
