@@ -12,6 +12,8 @@ TOKEN = re.compile(rf"{NAME}|[(){{}};,.λ]")
 DECLARES = re.compile(rf"\s*(abbrev |unfoldable )?(pub )?({NAME})\s+:(?=\s|$)")
 TYPE = re.compile(rf"(pub )?(record|data) ({NAME})")
 HELPER = re.compile(rf"\s+({NAME}) :(?=\s|$)")
+# the files in the folder of a function's proof
+PROOF = ("Answers", "Invariants", "Proof")
 CLAUSE = re.compile(rf"\s*({NAME})((?:[^=λ]|=(?=\S))*?) =(?=\s|$)")
 
 
@@ -98,8 +100,8 @@ def bound(tokens):
 
 
 def parts_of(name):
-    """The words by which a name is written: those between its arguments, for an operator."""
-    return [p for p in name.split("_") if p] if name.startswith("_") or name.endswith("_") else [name]
+    """The words by which a name is written: those between its arguments, for an operator, as `◌+◌`."""
+    return [p for p in name.split("◌") if p] if "◌" in name else [name]
 
 
 def is_seen(name, seen):
@@ -218,13 +220,14 @@ class Module:
         return f"crates/{self.crate}/{self.part}/{self.inside.replace('.', '/')}.antt"
 
     def is_proof(self):
-        """Is it the proof of a function? What it declares is called as the kit says."""
-        return self.inside.split(".")[-1] == "Proof"
+        """Is it a file of a function's proof? What it declares for all to see has the name of a goal, of an invariant or of a measure, which the kit gives."""
+        folder, _, name = self.inside.rpartition(".")
+        return bool(folder) and name in PROOF
 
 
 def place_of(place):
-    """The crate, the part and the way below it of a path: `Rattle·a·specs.specs.M.T` is crate a's specs, M, T. None for a library's."""
-    m = re.match(r"Rattle·(\w+?)(?:·(?:specs|proofs))?\.(specs|proofs)\.(.+)$", place)
+    """The crate, the part and the way below it of a path: `Rattle.a.specs.M.T` is crate a's specs, M, T. None for another library's."""
+    m = re.match(r"Rattle\.(\w+)\.(specs|proofs)\.(.+)$", place)
     return m and (m.group(1), m.group(2), m.group(3).split("."))
 
 
@@ -236,6 +239,8 @@ class Function:
 
     def __init__(self, source, kind, name, line, public, exported, text):
         self.source, self.kind, self.name, self.line, self.public, self.exported, self.text = source, kind, name, line, public, exported, text
+        # the paths of the lemmas and definitions that its attributes hand to tactics
+        self.handed = []
         start = text.index("(")
         self.asked = text[start : closing(text, start)]
         answer = re.match(r"\s*->\s*([^\n{]+)", text[start + len(self.asked) :])
@@ -249,7 +254,8 @@ class Function:
 
     def clauses(self, kinds="requires|ensures"):
         """The texts of its `requires` and `ensures`, or of one kind of them."""
-        return [self.text[m.end() - 1 : closing(self.text, m.end() - 1, "{}")] for m in re.finditer(rf"\b(?:{kinds})\s*\{{", self.text)]
+        heads = re.finditer(rf"\b(?:{kinds})\b\*?(?:\s+\w+)?\s*\{{", self.text)
+        return [self.text[m.end() - 1 : closing(self.text, m.end() - 1, "{}")] for m in heads]
 
     def parameters(self):
         return set(re.findall(r"(\w+)\s*:", self.asked)) | {"self"}
@@ -276,6 +282,13 @@ class Source:
             kind = re.findall(r"^impl(?:<[^>]*>)? (\w+)", self.code[: m.start()], re.M)[-1] if m.group(1) else None
             text = self.code[m.start() : after.start() if after else len(self.code)]
             self.found.append(Function(self, kind, m.group(4), line_of(self.code, m.start()), bool(m.group(2)), bool(m.group(3)), text))
+        # what attributes hand to tactics: those right above a function, those in its body, and, for all functions, those before the first
+        for m in re.finditer(r"#!?\[tactic\(.*?\)\]", self.code, re.S):
+            paths = [path.split("::") for part in re.findall(r"\b(?:using|unfolding)\(([^()]*)\)", m.group(0)) for path in re.findall(r"[^\s,]+", part)]
+            above = m.group(0)[1] == "[" and re.match(r"(?:\s|#\[[^\n]*\]\n)*(?:pub )?(?:extern +)?fn ", self.code[m.end() :])
+            last = max((n for n, h in enumerate(heads) if h.start() < m.start()), default=None)
+            for f in [self.found[0 if last is None else last + 1]] if above else self.found if last is None else [self.found[last]]:
+                f.handed += paths
 
     def ways(self, path):
         """The paths, from a crate on, that a path of this file may stand for."""
@@ -344,6 +357,14 @@ class Tree:
                 cited += declared
         return cited
 
+    def handed(self, f):
+        """The declarations that a function's attributes hand to tactics, as `using(crate::proofs::M::lemma)`."""
+        found = []
+        for crate, *way in f.handed:
+            module, rest = self.found(".".join(["Rattle", f.source.crate if crate == "crate" else crate, *way]))
+            found += module.by_name.get(rest[0], []) if module and rest else []
+        return found
+
     def called(self, source, text):
         """The functions that a text of a source calls. Of a call by a dot the type is not known: every method of that name."""
         found = []
@@ -358,10 +379,10 @@ class Tree:
         return found
 
     def proof_of(self, f):
-        """The module of a function's proof: it has the function's name, and a `+` before it where the function calls itself."""
+        """The files of a function's proof: their folder has the function's name, and a `+` before it where the function calls itself."""
         within = [f.source.module + [f.kind], [f.kind]] if f.kind else [f.source.module]
-        ways = [".".join(inside + [mark + f.name, "Proof"]) for inside in within for mark in ("", "+")]
-        return next((self.modules[f.source.crate, "proofs", w] for w in ways if (f.source.crate, "proofs", w) in self.modules), None)
+        ways = [".".join(inside + [mark + f.name, name]) for inside in within for mark in ("", "+") for name in PROOF]
+        return [self.modules[f.source.crate, "proofs", w] for w in ways if (f.source.crate, "proofs", w) in self.modules]
 
 
 def repository(root=crates.ROOT):

@@ -50,26 +50,26 @@ class Words(unittest.TestCase):
         self.assertEqual(self.bound("f (g x) (h y)"), [])
 
     def test_operators_are_seen_by_their_signs(self):
-        self.assertTrue(rattle.is_seen("_≡_", {"≡"}))
-        self.assertTrue(rattle.is_seen("_≡_", {"_≡_"}))
-        self.assertFalse(rattle.is_seen("_∙_", {"≡"}))
+        self.assertTrue(rattle.is_seen("◌≡◌", {"≡"}))
+        self.assertTrue(rattle.is_seen("◌≡◌", {"◌≡◌"}))
+        self.assertFalse(rattle.is_seen("◌∙◌", {"≡"}))
         self.assertTrue(rattle.is_seen("step_in", {"step_in"}))
 
 
 class Uses(unittest.TestCase):
     def test_over_several_lines(self):
-        found, rest = rattle.uses("use A.B.{x,\n    y as z,\n    _+_}\nuse C as m\nw : A\n")
-        taken = [("A.B", "x", "x", 1), ("A.B", "y", "z", 2), ("A.B", "_+_", "_+_", 3), ("C", None, "m", 4)]
+        found, rest = rattle.uses("use A.B.{x,\n    y as z,\n    ◌+◌}\nuse C as m\nw : A\n")
+        taken = [("A.B", "x", "x", 1), ("A.B", "y", "z", 2), ("A.B", "◌+◌", "◌+◌", 3), ("C", None, "m", 4)]
         self.assertEqual([(u.place, u.there, u.name, u.line) for u in found], taken)
         self.assertEqual(rest.split(), ["w", ":", "A"])
 
     def test_of_contracts(self):
-        found, _ = rattle.uses("ghost use Rattle·a·specs.specs.M.{x, y};\nuse entdec::Reader;\nghost use Rattle·b.specs.N as n;\n", ghost=True)
-        self.assertEqual([(u.place, u.name) for u in found], [("Rattle·a·specs.specs.M", "x"), ("Rattle·a·specs.specs.M", "y"), ("Rattle·b.specs.N", "n")])
+        found, _ = rattle.uses("ghost use Rattle.a.specs.M.{x, y};\nuse entdec::Reader;\nghost use Rattle.b.specs.N as n;\n", ghost=True)
+        self.assertEqual([(u.place, u.name) for u in found], [("Rattle.a.specs.M", "x"), ("Rattle.a.specs.M", "y"), ("Rattle.b.specs.N", "n")])
 
     def test_places(self):
-        self.assertEqual(rattle.place_of("Rattle·rate_spec·specs.specs.Types"), ("rate_spec", "specs", ["Types"]))
-        self.assertEqual(rattle.place_of("Rattle·entcode.specs.Said.Said"), ("entcode", "specs", ["Said", "Said"]))
+        self.assertEqual(rattle.place_of("Rattle.rate_spec.specs.Types"), ("rate_spec", "specs", ["Types"]))
+        self.assertEqual(rattle.place_of("Rattle.entcode.specs.Said.Said"), ("entcode", "specs", ["Said", "Said"]))
         self.assertIsNone(rattle.place_of("mathlib.Core.Path"))
 
 
@@ -128,7 +128,7 @@ last = T
 
 
 class Sources(unittest.TestCase):
-    TEXT = '''ghost use Rattle·a·specs.specs.M.{x};
+    TEXT = '''ghost use Rattle.a.specs.M.{x};
 use b::{gate, Word};
 use super::near;
 // fn commented(
@@ -140,12 +140,14 @@ impl S {
         &mut self,
         at: usize,
     ) -> u32
-        requires { ⌜ x at ⌝ }
-        ensures { λ r. ⌜ (r ≡ x { y } at) ⌝ }
+        requires { x at }
+        ensures* { λ r. ⌜ r ≡ at ⌝ }
+        ensures equal { (result ≡ x { y } at) }
     {
         gate::inner(at)
     }
 }
+#[unsafe(no_mangle)]
 pub extern "C" fn out() -> Word {
     let s = S::get(1);
     near()
@@ -157,7 +159,7 @@ fn plain() {}
         self.source = rattle.Source("a", "way/work", self.TEXT)
 
     def test_functions(self):
-        there = [("S::get", 9, False, True), ("way::work::out", 19, True, False), ("way::work::plain", 23, False, False)]
+        there = [("S::get", 9, False, True), ("way::work::out", 21, True, False), ("way::work::plain", 25, False, False)]
         self.assertEqual([(f.full(), f.line, f.exported, f.is_method()) for f in self.source.found], there)
 
     def test_a_list_of_parameters_over_several_lines(self):
@@ -165,7 +167,8 @@ fn plain() {}
         self.assertEqual(self.source.found[0].answered.strip(), "u32")
 
     def test_clauses_with_braces_within(self):
-        self.assertEqual([" ".join(c.split()) for c in self.source.found[0].clauses()], ["{ ⌜ x at ⌝ }", "{ λ r. ⌜ (r ≡ x { y } at) ⌝ }"])
+        self.assertEqual([" ".join(c.split()) for c in self.source.found[0].clauses()], ["{ x at }", "{ λ r. ⌜ r ≡ at ⌝ }", "{ (result ≡ x { y } at) }"])
+        self.assertEqual(len(self.source.found[0].clauses("requires")), 1)
 
     def test_calls(self):
         tree = rattle.Tree({
@@ -174,7 +177,7 @@ fn plain() {}
             ("b", "src", "gate"): "pub fn inner(at: usize) {}\npub fn other() {}\n",
         })
         source = next(s for s in tree.sources if s.module == ["way", "work"])
-        self.assertEqual([f.full() for f in tree.called(source, source.found[0].text.split("{", 3)[-1])], ["gate::inner"])
+        self.assertEqual([f.full() for f in tree.called(source, source.found[0].text.split("{", 5)[-1])], ["gate::inner"])
         self.assertEqual([f.full() for f in tree.called(source, source.found[1].text)], ["way::work::out", "S::get", "way::near"])
         self.assertEqual([f.source.module for f in tree.called(source, " plain()")], [["way", "work"]])
 

@@ -6,8 +6,8 @@ from scripts import script
 style = script("style")
 
 
-def found(path, text, walks=()):
-    return sorted(style.broken(path, text, walks))
+def found(path, text):
+    return sorted(style.broken(path, text))
 
 
 def lines(path, text):
@@ -25,9 +25,8 @@ class Lengths(unittest.TestCase):
         self.assertEqual(lines("tools/a", f"# {LONG}\n{'x' * 155}\n"), [1])
 
     def test_what_is_written_by_tools_and_data(self):
-        for path in ("crates/decided/proofs/A.antt", "docs/EDITS.md", "docs/contracts/WORKERS.md", "tools/walks/one.txt", "bindings/c/a.c"):
+        for path in ("crates/decided/proofs/A.antt", "docs/EDITS.md", "docs/contracts/WORKERS.md", "bindings/c/a.c"):
             self.assertEqual(lines(path, LONG + "\n"), [], path)
-        self.assertEqual(found("crates/a/proofs/Walk.antt", LONG + "\n", {"crates/a/proofs/Walk.antt"}), [])
         self.assertEqual(lines("crates/a/cases.txt", f"{LONG}\n# {LONG}\n"), [2])
         self.assertTrue(all(style.is_data(p) for p in ("crates/a/stdin", "crates/a/stdout", "tools/b_traffic.txt")))
 
@@ -44,16 +43,16 @@ class Comments(unittest.TestCase):
         self.assertEqual(lines("crates/a/specs/A.antt", text), [7, 11])
 
     def test_a_fixity_may_stand_between(self):
-        self.assertEqual(lines("crates/a/specs/A.antt", "-- and\ninfixr 20 _&_\npub _&_ : N\n_&_ = x\n"), [])
+        self.assertEqual(lines("crates/a/specs/A.antt", "-- and\ninfixr 20 ◌&◌\npub ◌&◌ : N\n◌&◌ = x\n"), [])
 
     def test_sources(self):
-        text = "// One.\n#[no_mangle]\npub extern \"C\" fn one() {}\n\npub fn two() {}\nfn three() {}\n\n"
+        text = "// One.\n#[unsafe(no_mangle)]\npub extern \"C\" fn one() {}\n\npub fn two() {}\nfn three() {}\n\n"
         text += "// A kind.\npub enum Kind {\n    A,\n}\nimpl Kind {\n    pub fn four() {}\n}\n"
         self.assertEqual(lines("crates/a/src/lib.rt", text), [5, 13])
 
 
 class Proofs(unittest.TestCase):
-    PATH = "crates/a/proofs/gate/refusal/Proof.antt"
+    PATH = "crates/a/proofs/gate/refusal/Answers.antt"
 
     def test_the_first_line(self):
         for said in ("`a::gate::refusal`: by cases of the length. Assumes nothing.", "`gate::refusal`: meets its contract: by cases.", "`refusal`: a fold."):
@@ -64,24 +63,28 @@ class Proofs(unittest.TestCase):
                       "-- `a::gate::refusal`: meets its contract. Assumes nothing."):
             self.assertEqual(lines(self.PATH, first + "\n"), [1], first)
 
+    def test_which_files(self):
+        self.assertEqual(lines("crates/a/proofs/gate/refusal/Invariants.antt", "abbrev pub invariant-loop-i : goal.invariant-loop-i\n"), [1])
+        self.assertEqual(lines("crates/a/proofs/Answers.antt", "-- one\npub one : A\n"), [])
+
 
 class Paths(unittest.TestCase):
     def long(self, text):
         return [line for line, _ in style.long_paths(text)]
 
     def test_a_name_at_the_head_of_an_equation(self):
-        path = ".before " * 8
-        self.assertEqual(self.long(f"one c =\n    let start = c {path}in\n    let at-two = start {path}.two in\n    f start\n"), [])
+        path = ".before" * 8
+        self.assertEqual(self.long(f"one c =\n    let start = c{path} in\n    let at-two = start{path}.two in\n    f start\n"), [])
 
     def test_a_name_at_the_head_of_a_type(self):
-        path = ".before " * 8
-        self.assertEqual(self.long(f"one : (c : C) → let p = c {path}in let q = p {path}in\n    p .x ≡ q .x\n"), [])
+        path = ".before" * 8
+        self.assertEqual(self.long(f"one : (c : C) → let p = c{path} in let q = p{path} in\n    p.x ≡ q.x\n"), [])
 
     def test_elsewhere(self):
-        path = ".before " * 7
-        self.assertEqual(self.long(f"one c = f (c {path}.before .args)\n"), [1])
-        self.assertEqual(self.long(f"one c =\n    f (let s = c {path}\n        .before in s)\n"), [2])
-        self.assertEqual(self.long(f"one c = f (c {path}.args)\n-- c {path}.before\n"), [])
+        path = ".before" * 7
+        self.assertEqual(self.long(f"one c = f (c{path}.before.args)\n"), [1])
+        self.assertEqual(self.long(f"one c =\n    f (let s = c{path}\n        .before in s)\n"), [2])
+        self.assertEqual(self.long(f"one c = f (c{path}.args)\n-- c{path}.before\n"), [])
 
 
 class Words(unittest.TestCase):

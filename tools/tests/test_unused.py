@@ -25,12 +25,12 @@ STATED = "abbrev pub Stated : Type 0\nStated = (n : ℕ) → size n ≡ n\n\nabb
 
 class Needed(unittest.TestCase):
     def test_a_proved_statement_and_what_it_cites(self):
-        laws = "use Rattle·a·specs.specs.M.{Stated, size}\n\nhelp : size 0 ≡ 0\nhelp = refl\n\n"
+        laws = "use Rattle.a.specs.M.{Stated, size}\n\nhelp : size 0 ≡ 0\nhelp = refl\n\n"
         laws += "pub stated : Stated\nstated n = help\n\npub idle : size 1 ≡ 1\nidle = refl\n"
         self.assertEqual(found({SPECS: STATED, LAWS: laws}), ["idle"])
 
     def test_an_equation_over_a_definition_is_no_statement(self):
-        laws = "use Rattle·a·specs.specs.M.{size}\n\npub first : size 0 ≡ 0\nfirst = refl\n"
+        laws = "use Rattle.a.specs.M.{size}\n\npub first : size 0 ≡ 0\nfirst = refl\n"
         self.assertEqual(found({SPECS: STATED, LAWS: laws}), ["Stated", "size", "first"])
 
     def test_what_only_something_unneeded_cites(self):
@@ -38,11 +38,11 @@ class Needed(unittest.TestCase):
         self.assertEqual(found({LAWS: laws}), ["top", "below"])
 
     def test_a_variable_of_the_same_name_is_no_citation(self):
-        laws = "use Rattle·a·specs.specs.M.{Stated}\n\npub rest : A\nrest = a\n\npub stated : Stated\nstated rest = λ x. f rest x\n"
+        laws = "use Rattle.a.specs.M.{Stated}\n\npub rest : A\nrest = a\n\npub stated : Stated\nstated rest = λ x. f rest x\n"
         self.assertIn("rest", found({SPECS: STATED, LAWS: laws}))
 
     def test_the_same_name_in_another_module_is_another(self):
-        other = "use Rattle·a.specs.M.{Stated}\nuse Rattle·a.proofs.Laws as laws\n\npub stated : Stated\nstated = laws.one\n"
+        other = "use Rattle.a.specs.M.{Stated}\nuse Rattle.a.proofs.Laws as laws\n\npub stated : Stated\nstated = laws.one\n"
         laws = "pub one : A\none = a\n\npub two : A\ntwo = a\n"
         self.assertEqual(found({SPECS: STATED, LAWS: laws, ("b", "proofs", "Laws"): "pub one : A\none = a\n", ("b", "proofs", "Other"): other}), ["two", "one"])
 
@@ -61,13 +61,24 @@ class Needed(unittest.TestCase):
         self.assertEqual(found({LAWS: "pub one : A\none = a\n\npub two : A\ntwo = a\n"}, documents=[table]), ["one"])
 
     def test_functions(self):
-        src = "ghost use Rattle·a·specs.specs.M.{size};\n\npub fn call(n: u32) -> u32\n    ensures { λ r. ⌜ r ≡ size n ⌝ }\n{\n    worker(n)\n}\n"
+        src = "ghost use Rattle.a.specs.M.{size};\n\npub fn call(n: u32) -> u32\n    ensures { result ≡ size n }\n{\n    worker(n)\n}\n"
         src += "fn worker(n: u32) -> u32 {\n    n\n}\nfn idle() {\n    worker(1)\n}\n"
-        proof = "use Rattle·a·proofs.proofs.Laws.{one}\n\nreturns : tie.Need-returns\nreturns c = one\n\n"
-        proof += "pub idle-spec : statement M\nidle-spec = tie.close (tie.spec returns)\n"
-        files = {("a", "src", "lib"): src, SPECS: STATED, LAWS: "pub one : A\none = a\n", ("a", "proofs", "idle/Proof"): proof}
-        self.assertEqual(found(files, {"a": ["call"]}), ["Stated", "one", "returns", "idle-spec", "idle"])
-        self.assertEqual(found(files, {"a": ["call", "idle"]}), ["Stated"])
+        proof = "use Rattle.a.proofs.Laws.{one}\nuse Rattle.a.proofs.idle.Goals as goal\n\nhelp : A\nhelp = one\n\nspare : A\nspare = one\n\n"
+        proof += "pub returns : goal.returns\nreturns c = help\n"
+        measure = "abbrev pub decreases-loop-i : goal.decreases-loop-i\ndecreases-loop-i l = l.i\n"
+        files = {("a", "src", "lib"): src, SPECS: STATED, LAWS: "pub one : A\none = a\n"}
+        files |= {("a", "proofs", "idle/Answers"): proof, ("a", "proofs", "idle/Invariants"): measure}
+        self.assertEqual(found(files, {"a": ["call"]}), ["Stated", "one", "help", "spare", "returns", "decreases-loop-i", "idle"])
+        self.assertEqual(found(files, {"a": ["call", "idle"]}), ["Stated", "spare"])
+
+    def test_what_attributes_hand_to_tactics(self):
+        laws = "".join(f"pub {n} : A\n{n} = a\n\n" for n in ("one", "two", "three", "four"))
+        handed = lambda name: f"#[tactic(auto, using(crate::proofs::Laws::{name}), unfolding(crate::specs::M::size))]\n"
+        src = handed("one") + "// Why.\npub fn f() {\n    " + handed("two") + "    g();\n}\n" + handed("three") + "fn idle() {}\nfn g() {}\n"
+        files = {("a", "src", "lib"): src, LAWS: laws, SPECS: STATED}
+        self.assertEqual(found(files, {"a": ["f"]}), ["three", "four", "Stated", "idle"])
+        files["a", "src", "lib"] = handed("four").replace("#[", "#![") + src
+        self.assertEqual(found(files, {"a": ["f"]}), ["three", "Stated", "idle"])
 
     def test_main_and_what_is_exported(self):
         self.assertEqual(found({("p", "src", "main"): "fn main() {\n    x.step()\n}\nimpl X {\n    fn step(self) {}\n    fn idle(self) {}\n}\n"}), ["X::idle"])
@@ -76,18 +87,18 @@ class Needed(unittest.TestCase):
 
 class Idle(unittest.TestCase):
     def test_names_that_are_taken_and_not_used(self):
-        text = "use A.{x,\n    y as z, _+_, _∷_}\nuse B as m\nuse C as n\n\nlemma : x + 1 ≡ n.w\nlemma = a -- z, m.q and a ∷ b\n"
-        self.assertEqual(idle({LAWS: text}), [(2, "z"), (2, "_∷_"), (3, "m")])
+        text = "use A.{x,\n    y as z, ◌+◌, ◌∷◌}\nuse B as m\nuse C as n\n\nlemma : x + 1 ≡ n.w\nlemma = a -- z, m.q and a ∷ b\n"
+        self.assertEqual(idle({LAWS: text}), [(2, "z"), (2, "◌∷◌"), (3, "m")])
 
     def test_a_field_and_a_binder_of_the_same_name_are_no_uses(self):
-        text = "use A.{now, code}\n\nlemma : (now : A) → B\nlemma r = record { code = r .now }\n"
+        text = "use A.{now, code}\n\nlemma : (now : A) → B\nlemma r = record { code = r.now }\n"
         self.assertEqual([name for _, name in idle({LAWS: text})], ["now", "code"])
 
     def test_a_constructor_in_a_pattern_is_used(self):
         self.assertEqual(idle({LAWS: "use A.{zero, suc}\n\nf : N → N\nf zero = f\nf (suc n) = n\n"}), [])
 
     def test_sources(self):
-        src = "ghost use A.{x, y};\nuse b::{Word, gate};\n// gate::f()\npub fn f(w: Word)\n    ensures { λ r. ⌜ x ⌝ }\n{\n    let y = 1;\n}\n"
+        src = "ghost use A.{x, y};\nuse b::{Word, gate};\n// gate::f()\npub fn f(w: Word)\n    ensures { x }\n{\n    let y = 1;\n}\n"
         self.assertEqual([name for _, name in idle({("a", "src", "lib"): src})], ["y", "gate"])
 
 
