@@ -2,8 +2,6 @@
 -- computes. Assumes nothing.
 use Prim.Native.Nat.{ℕ, zero, suc, ◌*◌, ◌/◌, ◌%◌, ◌^◌, ◌≤◌, ◌<◌}
 use mathlib.Core.Path.{◌≡◌, refl, ◌∙◌}
-use mathlib.Core.Logic.{⊎_elim}
-use native.Mathlib.Nat.{eq-or-lt_of_le}
 use native.Mathlib.Omega.{arith}
 use lib.Dec.{eqb}
 use lib.ListN.{get_or}
@@ -19,21 +17,6 @@ use Rattle.rate_cache.specs.Packed.{mark_at, row_mark, four_marks, eight_entries
 -- an arm
 pub hit : (f : ℕ → ℕ) (k : ℕ) {n w : ℕ} → k ≡ n → w ≡ f n → w ≡ f k
 hit f k e h = rw e h
-
--- what is left after the arms 0..n-1
-abbrev pub Others : ℕ → ℕ → Type 0
-Others zero k = Unit {0}
-Others (suc n) k = Others n k × (k ≡ n → ⊥)
-
--- then k is past them
-others_le : (n k : ℕ) → Others n k → n ≤ k
-others_le zero k o = omega arith
-others_le (suc n) k o =
-    ⊎_elim (λ (e : n ≡ k). absurd (o.1 (omega arith))) (λ (h : n < k). omega arith) (eq-or-lt_of_le (others_le n k o.0))
-
--- the last arm
-pub last : (n k : ℕ) → Others n k → k < suc n → k ≡ n
-last n k o h = omega (arith, others_le n k o)
 
 -- ---- one of them
 

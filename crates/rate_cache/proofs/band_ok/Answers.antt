@@ -1,4 +1,5 @@
 -- `rate_cache::band_ok`: both tests. Assumes nothing.
+use mir.Facts.{to_z-of_z}
 use Rattle.rate_cache.specs.Lookups.{band_ok}
 use Rattle.rate_cache.proofs.band_ok.Goals as goal
 
@@ -6,4 +7,4 @@ pub returns : goal.returns
 unfolding band_ok
 returns c =
     let s = c in
-    rw (c.in_range-2.ensures, c.in_range.ensures)
+    rw (c.in_range-2.ensures, c.in_range.ensures, to_z-of_z s.ranges.band, to_z-of_z s.ranges.lm)

@@ -3,6 +3,7 @@ use Prim.Native.Nat.{◌≤◌}
 use mathlib.Core.Path.{◌≡◌, sym, ◌∙◌}
 use mathlib.Core.Bool.{◌&&◌}
 use native.Mathlib.Omega.{arith}
+use mir.Facts.{to_z-of_z}
 use Rattle.laws.specs.Signs.{clip}
 use Rattle.modes.specs.CacheIndex.{row_start}
 use Rattle.rate_cache.specs.Lookups.{refusal_of, level_of, band_ok, bits_ok, HasRow, no_row, bits_to_pulses}
@@ -16,7 +17,7 @@ number : (c : After-bits_refusal-no)
     → c.bits_refusal-no.result
     ≡ refusal_of (band_ok c.args.band c.args.lm && bits_ok c.args.bits)
     (no_row (level_of c.args.lm) (clip c.args.band))
-number c = let f = c.ranges in c.bits_refusal-no.ensures
+number c = let f = c.ranges in rw (to_z-of_z f.band, to_z-of_z f.lm, to_z-of_z f.bits) at c.bits_refusal-no.ensures
 
 -- there is none
 pass : (c : After-bits_refusal-no) → c.bits_refusal-no.result ≡ 0
@@ -26,21 +27,21 @@ pass c z = let a = c.args in bits-pass a.band a.lm a.bits (sym (number c) ∙ z)
 -- the row
 start : (c : After-row_of)
     → c.row_of.result ≡ row_start (level_of c.args.lm) (clip c.args.band)
-start c = let f = c.ranges in c.row_of.ensures
+start c = let f = c.ranges in rw (to_z-of_z f.band, to_z-of_z f.lm) at c.row_of.ensures
 
 pub returns-then-no-ne0 : goal.returns-then-no-ne0
 unfolding bits_to_pulses
 returns-then-no-ne0 c = answer_no _ _ (number (goal.at.returns-then-no-ne0 c).After-bits_refusal-no) c.if-no-ne0.true
 
 pub row_of-requires : goal.row_of-requires
-row_of-requires c = let f = c.ranges in (pass (goal.at.row_of-requires c).After-bits_refusal-no c.if-no-ne0.false).0
+row_of-requires c = let f = c.ranges in rw (to_z-of_z f.band, to_z-of_z f.lm) (pass (goal.at.row_of-requires c).After-bits_refusal-no c.if-no-ne0.false).0
 
 pub pulses_for-requires : goal.pulses_for-requires
 pulses_for-requires c =
     let d = c in
     let s = d in
     let p = pass (goal.at.pulses_for-requires c).After-bits_refusal-no d.if-no-ne0.false in
-    let n = c.clipped.ensures.0 in
+    let n = rw (to_z-of_z s.ranges.bits) at c.clipped.ensures.0 in
     (rw (start (goal.at.pulses_for-requires c).After-row_of) (row_is s.args.band s.args.lm p.0), omega (arith, p.1))
 
 pub returns : goal.returns
@@ -48,6 +49,6 @@ unfolding bits_to_pulses
 returns c =
     let d = c in
     let s = d in
-    let n = c.clipped.ensures.0 in
+    let n = rw (to_z-of_z s.ranges.bits) at c.clipped.ensures.0 in
     answer-yes _ _ (number (goal.at.returns c).After-bits_refusal-no) d.if-no-ne0.false
     ((rw (start (goal.at.returns c).After-row_of, n) at c.pulses_for.ensures) ∙ pulses-clip _ s.args.bits)

@@ -2,6 +2,7 @@
 use mathlib.Core.Path.{◌≡◌}
 use mathlib.Core.Bool.{◌&&◌, and-eq-true_iff}
 use native.Mathlib.Omega.{arith}
+use mir.Facts.{to_z-of_z}
 use Rattle.rate_cache.specs.Lookups.{band_ok, bits_ok}
 use Rattle.rate_cache.proofs.Gates.{in_index, gate_off}
 use Rattle.rate_cache.proofs.bits_refusal.Goals as goal
@@ -13,7 +14,7 @@ tests : (c : After-bits_ok)
     ≡ (band_ok c.args.band c.args.lm && bits_ok c.args.bits)
 tests c =
     let f = c.ranges in
-    rw (c.band_ok.ensures, c.bits_ok.ensures)
+    rw (c.band_ok.ensures, c.bits_ok.ensures, to_z-of_z f.band, to_z-of_z f.lm, to_z-of_z f.bits)
 
 pub no_row-requires : goal.no_row-requires
 no_row-requires c =
@@ -21,8 +22,8 @@ no_row-requires c =
     let s = d in
     let t = ((and-eq-true_iff (band_ok s.args.band s.args.lm) (bits_ok s.args.bits)).0 (rw (tests (goal.at.no_row-requires c).After-bits_ok) at d.if-band_ok-bits_ok.true)).0 in
     let p = in_index s.args.band s.args.lm t in
-    let l = c.level.ensures in
-    let b = c.clipped.ensures.0 in
+    let l = rw (to_z-of_z s.ranges.lm) at c.level.ensures in
+    let b = rw (to_z-of_z s.ranges.band) at c.clipped.ensures.0 in
     (omega arith, omega arith)
 
 pub returns : goal.returns

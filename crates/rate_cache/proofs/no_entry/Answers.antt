@@ -4,6 +4,7 @@ use mathlib.Core.Path.{◌≡◌}
 use native.Mathlib.Omega.{arith}
 use lib.IntN.{pos}
 use mir.Syntax.{w32}
+use mir.Facts.{to_z-of_z}
 use mir.ValLaws.{to_z_pos}
 use borrow.Author.Tests.{eq-eqb, ne_eqb}
 use Rattle.laws.specs.Signs.{in_range}
@@ -25,7 +26,7 @@ within c =
     let p = c in
     let m = c.mark_of-mark in
     let e = mark-length p.args.lm p.args.band (some (goal.at.After-in_range c).Else-mark-eq0) in
-    rw (to_z_pos w32 (m.result / 512) (omega (arith, m.ensures.1)), m.ensures.0, e) at c.in_range.ensures
+    rw (to_z-of_z p.ranges.pulses, to_z_pos w32 (m.result / 512) (omega (arith, m.ensures.1)), m.ensures.0, e) at c.in_range.ensures
 
 pub returns-then-mark-eq0 : goal.returns-then-mark-eq0
 unfolding no_entry

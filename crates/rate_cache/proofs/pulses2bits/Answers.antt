@@ -2,6 +2,7 @@
 use Prim.Native.Nat.{◌≤◌}
 use mathlib.Core.Path.{◌≡◌, sym, ◌∙◌}
 use native.Mathlib.Omega.{arith}
+use mir.Facts.{to_z-of_z}
 use Rattle.laws.specs.Signs.{clip}
 use Rattle.modes.specs.CacheBits.{row_length}
 use Rattle.modes.specs.CacheIndex.{row_start}
@@ -15,7 +16,7 @@ number : (c : After-pulses_refusal-no)
     → c.pulses_refusal-no.result
     ≡ refusal_of (band_ok c.args.band c.args.lm)
     (no_entry (level_of c.args.lm) (clip c.args.band) c.args.pulses)
-number c = let f = c.ranges in c.pulses_refusal-no.ensures
+number c = let f = c.ranges in rw (to_z-of_z f.band, to_z-of_z f.lm, to_z-of_z f.pulses) at c.pulses_refusal-no.ensures
 
 -- there is none
 pass : (c : After-pulses_refusal-no) → c.pulses_refusal-no.result ≡ 0
@@ -26,14 +27,14 @@ pass c z = let a = c.args in pulses-pass a.band a.lm a.pulses (sym (number c) �
 -- the row
 start : (c : After-row_of)
     → c.row_of.result ≡ row_start (level_of c.args.lm) (clip c.args.band)
-start c = let f = c.ranges in c.row_of.ensures
+start c = let f = c.ranges in rw (to_z-of_z f.band, to_z-of_z f.lm) at c.row_of.ensures
 
 pub returns-then-no-ne0 : goal.returns-then-no-ne0
 unfolding pulses_to_bits
 returns-then-no-ne0 c = answer_no _ _ (number (goal.at.returns-then-no-ne0 c).After-pulses_refusal-no) c.if-no-ne0.true
 
 pub row_of-requires : goal.row_of-requires
-row_of-requires c = let f = c.ranges in (pass (goal.at.row_of-requires c).After-pulses_refusal-no c.if-no-ne0.false).0
+row_of-requires c = let f = c.ranges in rw (to_z-of_z f.band, to_z-of_z f.lm) (pass (goal.at.row_of-requires c).After-pulses_refusal-no c.if-no-ne0.false).0
 
 pub bits_for-requires : goal.bits_for-requires
 bits_for-requires c =
@@ -41,7 +42,7 @@ bits_for-requires c =
     let s = d in
     let p = pass (goal.at.bits_for-requires c).After-pulses_refusal-no d.if-no-ne0.false in
     let w = row_is s.args.band s.args.lm p.0 in
-    let n = c.clipped.ensures.0 in
+    let n = rw (to_z-of_z s.ranges.pulses) at c.clipped.ensures.0 in
     rw (start (goal.at.bits_for-requires c).After-row_of, n) (omega (arith, p.1, w.inside))
 
 pub returns : goal.returns
@@ -49,5 +50,5 @@ unfolding pulses_to_bits
 returns c =
     let d = c in
     let s = d in
-    let n = c.clipped.ensures.0 in
+    let n = rw (to_z-of_z s.ranges.pulses) at c.clipped.ensures.0 in
     answer-yes _ _ (number (goal.at.returns c).After-pulses_refusal-no) d.if-no-ne0.false (rw (start (goal.at.returns c).After-row_of, n) at c.bits_for.ensures)

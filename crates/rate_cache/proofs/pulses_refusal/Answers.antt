@@ -1,6 +1,7 @@
 -- `rate_cache::pulses_refusal`: the numbers first, and only then the row. Assumes nothing.
 use mathlib.Core.Path.{◌≡◌}
 use native.Mathlib.Omega.{arith}
+use mir.Facts.{to_z-of_z}
 use Rattle.rate_cache.specs.Lookups.{band_ok}
 use Rattle.rate_cache.proofs.Gates.{in_index, gate_off}
 use Rattle.rate_cache.proofs.pulses_refusal.Goals as goal
@@ -8,15 +9,15 @@ use Rattle.rate_cache.proofs.pulses_refusal.Goals.{After-band_ok}
 
 -- the test
 tests : (c : After-band_ok) → c.band_ok.result ≡ band_ok c.args.band c.args.lm
-tests c = let f = c.ranges in c.band_ok.ensures
+tests c = let f = c.ranges in rw (to_z-of_z f.band, to_z-of_z f.lm) at c.band_ok.ensures
 
 pub no_entry-requires : goal.no_entry-requires
 no_entry-requires c =
     let d = c in
     let s = d in
     let p = in_index s.args.band s.args.lm (rw (tests (goal.at.no_entry-requires c).After-band_ok) at d.if-band_ok.true) in
-    let l = c.level.ensures in
-    let b = c.clipped.ensures.0 in
+    let l = rw (to_z-of_z s.ranges.lm) at c.level.ensures in
+    let b = rw (to_z-of_z s.ranges.band) at c.clipped.ensures.0 in
     (omega arith, omega arith)
 
 pub returns : goal.returns

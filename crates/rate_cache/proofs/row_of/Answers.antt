@@ -2,6 +2,7 @@
 use Prim.Native.Nat.{ℕ, ◌-◌, ◌%◌}
 use mathlib.Core.Path.{◌≡◌, ap}
 use native.Mathlib.Omega.{arith}
+use mir.Facts.{to_z-of_z}
 use Rattle.laws.specs.Signs.{clip}
 use Rattle.modes.specs.CacheIndex.{index_entry}
 use Rattle.rate_cache.specs.Lookups.{level_of}
@@ -14,8 +15,8 @@ at : (c : After-mark_of-mark)
     → c.mark_of-mark.result % 512 ≡ index_entry (level_of c.args.lm) (clip c.args.band)
 at c =
     let s = c in
-    let l = c.level.ensures in
-    let b = c.clipped.ensures.0 in
+    let l = rw (to_z-of_z s.ranges.lm) at c.level.ensures in
+    let b = rw (to_z-of_z s.ranges.band) at c.clipped.ensures.0 in
     rw (rw (l, b) at c.mark_of-mark.ensures.0) (mark-place (level_of s.args.lm) (clip s.args.band))
 
 pub overflow_sub-result : goal.overflow_sub-result
