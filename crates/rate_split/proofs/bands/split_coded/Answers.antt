@@ -1,0 +1,84 @@
+-- `rate_split::bands::split_coded`: the loop has filled the lists up to j, and the balance is what reaches band j. Assumes nothing.
+use Prim.Native.Nat.{◌<◌}
+use mathlib.Core.Path.{ap, ◌∙◌}
+use native.Mathlib.Omega.{arith}
+use lib.IntN.{pos}
+use Rattle.laws.proofs.Lists.{fill_none, fill-up}
+use Rattle.rate_spec.specs.Types.{Band}
+use Rattle.rate_split.specs.declared.Share.{Share}
+use Rattle.rate_split.proofs.CodedBands.{CodedPart, above-first, carried_none, coded-part, within}
+use Rattle.rate_bands.proofs.Listed.{filled-length}
+use Rattle.rate_split.proofs.bands.split_coded.Goals as goal
+use Rattle.rate_split.proofs.bands.split_coded.Goals.{After-part_of-p}
+
+-- what part_of gives for the loop's band is that band's part
+part_at : (c : After-part_of-p) →
+    let l = c in
+    let a = l.args in
+    CodedPart a.f a.caps.now a.bits.now a.coded a.left a.intensity a.dual l.loop-j.j c.part_of-p.result
+part_at c =
+    let l = c in
+    let a = l.args in
+    let v = l.loop-j.invariant in
+    coded-part a.f a.caps.now a.bits.now a.coded a.left a.intensity a.dual l.requires.split_in l.loop-j.j v.0 (omega arith)
+    l.share_of-g.ensures v.2 c.Edge-of.ensures.0 v.3 c.part_of-p.ensures.0
+
+pub loop-j-init : goal.loop-j-init
+loop-j-init c =
+    let a = c.args in (
+      omega arith,
+      omega arith,
+      ap (λ (g : Share). g.first) c.share_of-g.ensures,
+      carried_none a.f a.caps.now a.bits.now a.coded a.left a.intensity a.dual,
+      fill_none _ a.f.start a.pulses.now,
+      fill_none _ a.f.start a.fine.now,
+      fill_none _ a.f.start a.prios.now,
+    )
+
+pub part_of-p-requires : goal.part_of-p-requires
+part_of-p-requires c =
+    let l = c in
+    let a = l.args in
+    let o = l.requires.split_in in
+    let v = l.loop-j.invariant in
+    let h = c.Edge-of.ensures.0 in
+    let k : l.loop-j.j < a.coded = omega arith in (
+      o.frame,
+      omega (arith, o.frame),
+      v.2,
+      h,
+      above-first a.f a.caps.now a.bits.now a.coded a.left a.intensity a.dual o l.loop-j.j v.0 k l.share_of-g.ensures
+          v.2 h v.3,
+      within a.f a.caps.now a.bits.now a.coded a.left a.intensity a.dual o l.loop-j.j v.0 k l.share_of-g.ensures v.2 h
+          v.3,
+    )
+
+pub store-requires : goal.store-requires
+store-requires c =
+    let l = c in
+    let t = part_at (goal.at.store-requires c).After-part_of-p in record {
+      pulses_bound = (omega (arith, t.pulses-le), omega (arith, t.fine_le), omega (arith, c.part_of-p.ensures.1));
+      j_in_bounds = (
+        omega (arith, filled-length _ _ _ _ l.loop-j.invariant.4),
+        omega (arith, filled-length _ _ _ _ l.loop-j.invariant.5),
+        omega (arith, filled-length _ _ _ _ l.loop-j.invariant.6),
+      );
+    }
+
+pub loop-j-preserved : goal.loop-j-preserved
+loop-j-preserved c =
+    let here = c in
+    let u = here in
+    let l = u in
+    let t = part_at (goal.at.loop-j-preserved c).After-part_of-p in
+    let a = l.args in
+    let v = l.loop-j.invariant in
+    let s = c.store.ensures in (
+      omega (arith, v.0),
+      omega (arith, u),
+      u.Edge-of.ensures.0,
+      t.next,
+      s.0 ∙ fill-up _ a.f.start l.loop-j.j a.pulses.now v.0 v.4 (ap (λ (b : Band). pos b.pulses) t.part-is),
+      s.1 ∙ fill-up _ a.f.start l.loop-j.j a.fine.now v.0 v.5 (ap (λ (b : Band). pos b.fine) t.part-is),
+      s.2 ∙ fill-up _ a.f.start l.loop-j.j a.prios.now v.0 v.6 (ap (λ (b : Band). pos b.prio) t.part-is),
+    )
