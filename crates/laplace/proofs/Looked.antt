@@ -19,10 +19,6 @@ use Rattle.laplace.proofs.Known.{PairAt, known_at, at-known}
 
 -- ---- the rows as the arms of a match
 
--- an arm: z is its share
-pub hit : (z : ℕ) {k w : ℕ} → z ≡ k → w ≡ decays_for k → w ≡ decays_for z
-hit z e h = rw e h
-
 -- what is left of a match: z is the share of none of the rows, beside what N says
 abbrev pub Besides : Type 0 → List DecayRow → ℕ → Type 0
 Besides N [] z = N

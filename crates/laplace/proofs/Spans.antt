@@ -1,7 +1,7 @@
 -- The places of the Laplace values: each value has some, no place belongs to two, every place below 32,768 belongs to one, and a reader of a
 -- place finds the value that was written there. Assumes nothing.
 use Prim.Native.Nat.{ℕ, zero, suc, ◌+◌, ◌-◌, ◌*◌, ◌/◌, ◌≤◌, ◌<◌}
-use mathlib.Core.Path.{◌≡◌, refl, ap, sym, ◌∙◌}
+use mathlib.Core.Path.{◌≡◌, refl, ap, sym, subst, ◌∙◌}
 use mathlib.Core.Bool.{Bool, true, false}
 use lib.Dec.{ltb}
 use native.Mathlib.Omega.{arith}
@@ -124,19 +124,20 @@ agree_back fm d (suc k) dec s h z =
       lt-ltb s.i ((walk (past fm) k dec (next_step dec s)).i + d)
           (omega arith),
     ) in
-    rw e (walk_step (up_to ((walk (past fm) k dec (next_step dec s)).i + d)) k dec s t' ∙ agree_back fm d k dec (next_step dec s)
+    subst (λ (x : Step). walk (up_to (x.i + d)) (suc k) dec s ≡ x) (sym e)
+    (walk_step (up_to ((walk (past fm) k dec (next_step dec s)).i + d)) k dec s t' ∙ agree_back fm d k dec (next_step dec s)
     (runs_out-next dec k s.fl s.f p' h) (rw e at z)))
     (λ m.
     let t : goes_on (past fm) s ≡ false = rw (p, m) in
     let e = walk-done (past fm) (suc k) dec s t in
     let y = (rw e at z) p' in
     let t' : goes_on (up_to (s.i + d)) s ≡ false = rw (p, le-ltb s.i (s.i + d) (omega arith)) in
-    rw e (walk-done (up_to (s.i + d)) (suc k) dec s t')))
+    subst (λ (x : Step). walk (up_to (x.i + d)) (suc k) dec s ≡ x) (sym e) (walk-done (up_to (s.i + d)) (suc k) dec s t')))
     (λ p.
     let t : goes_on (past fm) s ≡ false = rw p in
     let e = walk-done (past fm) (suc k) dec s t in
     let t' : goes_on (up_to (s.i + d)) s ≡ false = rw p in
-    rw e (walk-done (up_to (s.i + d)) (suc k) dec s t'))
+    subst (λ (x : Step). walk (up_to (x.i + d)) (suc k) dec s ≡ x) (sym e) (walk-done (up_to (s.i + d)) (suc k) dec s t'))
 
 -- ---- the places of one value
 

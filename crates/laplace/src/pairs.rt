@@ -5,6 +5,7 @@ ghost use Rattle.laplace.specs.Rows.{decays_for, holds};
 
 // The decays of the pairs whose zero has z 256ths, one in each byte. This is a match, which the compiler makes a table of: a constant array
 // would be written out at each call.
+#[tactic(auto, unfolding(crate::specs::Rows::decays_for, crate::specs::Rows::decays_in, crate::specs::Rows::decay_rows))]
 fn decays_of(z: u32) -> u64
     ensures { result ≡ decays_for z }
 {

@@ -6,7 +6,6 @@ use Rattle.laplace.proofs.Answers.{read_number, read_needs, said_got, said-refus
 use Rattle.laplace.proofs.ec_laplace_decode.Goals as goal
 use Rattle.laplace.proofs.ec_laplace_decode.Goals.{After-refusal-no}
 
--- `laplace::ec_laplace_decode`: the gate's number is the contract's; behind 0 the worker's read is what is answered. Assumes nothing.
 -- the gate's number, in the contract's terms
 gated : (c : After-refusal-no) → let a = c.args in c.refusal-no.result ≡ refusal_r (lap a.fs a.decay) a.s.now a.d
 gated c =
@@ -16,7 +15,8 @@ gated c =
 pub read-requires : goal.read-requires
 read-requires c =
     let a = c.args in
-    read_needs a.fs a.decay a.s.now a.d _ (gated (goal.at.read-requires c).After-refusal-no) c.if-no-eq0.true
+    let n = read_needs a.fs a.decay a.s.now a.d _ (gated (goal.at.read-requires c).After-refusal-no) c.if-no-eq0.true in
+    record { ready = n.0; decay_value = n.1 }
 
 pub returns-then-no-eq0 : goal.returns-then-no-eq0
 returns-then-no-eq0 c =

@@ -9,7 +9,6 @@ use Rattle.laplace.proofs.Answers.{write-number, write_needs, said-next, said_no
 use Rattle.laplace.proofs.ec_laplace_encode.Goals as goal
 use Rattle.laplace.proofs.ec_laplace_encode.Goals.{After-refusal-no}
 
--- `laplace::ec_laplace_encode`: the gate's number is the contract's; behind 0 the worker's write is what is answered. Assumes nothing.
 -- the gate's number, in the contract's terms
 gated : (c : After-refusal-no)
     → let a = c.args in c.refusal-no.result ≡ refusal_w (lap a.fs a.decay) (code_of a.value) (wr a.w a.buf.now)
@@ -22,18 +21,15 @@ gated c =
 pub write-y-requires : goal.write-y-requires
 write-y-requires c =
     let a = c.args in
-    write_needs a.fs a.decay a.value (wr a.w a.buf.now) _ (gated (goal.at.write-y-requires c).After-refusal-no) c.if-no-eq0.true
+    let n = write_needs a.fs a.decay a.value (wr a.w a.buf.now) _ (gated (goal.at.write-y-requires c).After-refusal-no) c.if-no-eq0.true in
+    record { writable = n.0; decay_value = n.1 }
 
 pub returns-then-no-eq0 : goal.returns-then-no-eq0
 returns-then-no-eq0 c =
-    let at-if1 = c in
-    let here = at-if1 in
-    let start = here in
-    let a = start.args in
+    let a = c.args in
     let k = c.write-y in
-    said-next a.fs a.decay _ a.value (wr a.w a.buf.now) _ k.result k.new.buf
-    (to_z-of_z start.ranges.value)
-    (gated (goal.at.returns-then-no-eq0 c).After-refusal-no) at-if1.if-no-eq0.true k.ensures.0 k.ensures.1
+    said-next a.fs a.decay _ a.value (wr a.w a.buf.now) _ k.result k.new.buf (to_z-of_z c.ranges.value) (gated (goal.at.returns-then-no-eq0 c).After-refusal-no)
+    c.if-no-eq0.true k.ensures.0 k.ensures.1
 
 pub returns-else-no-eq0 : goal.returns-else-no-eq0
 returns-else-no-eq0 c =

@@ -15,5 +15,5 @@ returns c =
     let l = c.locate-r in
     read_is a.s.now a.d _ a.fs a.decay (legal_parts a.fs a.decay c.requires.decay_value) l.result _
     (l.ensures.0 ∙ ap (λ (m : ℕ). locate m a.fs a.decay) c.decoded_place-fm.ensures.0)
-    (to_z-of_z {w = w32} {z = c.value_of_lem.result} (search rules) ∙ c.value_of_lem.ensures)
+    (to_z-of_z {w = w32} {z = c.value_of.result} (search rules) ∙ c.value_of.ensures)
     c.update-next.ensures
