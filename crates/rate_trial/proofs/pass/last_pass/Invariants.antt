@@ -1,4 +1,5 @@
 -- `rate_trial::pass::last_pass`: the bands from j up were written. Assumes nothing.
+use mathlib.Core.List.{[]}
 use Prim.Native.Nat.{◌-◌}
 use mathlib.Core.Path.{◌≡◌}
 use Rattle.rate_bands.specs.Inputs.{alloc_in}

@@ -1,0 +1,32 @@
+-- `rate_trial::pass::last_pass`: the bands from j up were written. Assumes nothing.
+use Prim.Native.Nat.{◌-◌}
+use native.Mathlib.Omega.{arith}
+use mathlib.Core.List.{[]}
+use Rattle.rate_bands.specs.Inputs.{alloc_in}
+use Rattle.laws.proofs.Lists.{fill_none}
+use Rattle.rate_spec.specs.Trials.{kept_bits}
+use Rattle.rate_trial.specs.Points.{point_bits}
+use Rattle.rate_trial.proofs.LastPass.{bits_on, down-none, keep_on}
+use Rattle.rate_trial.proofs.pass.last_pass.Goals as goal
+
+pub loop-j-init : goal.loop-j-init
+loop-j-init c =
+    let a = c.args in
+    let x = point_bits a.lows.now a.gaps.now a.q in
+    let kept = kept_bits (alloc_in a.f [] a.caps.now) x in
+    (down-none a.f a.caps.now x kept c.requires.0.start-lt, fill_none kept a.f.end a.bits.now)
+
+pub loop-j-preserved : goal.loop-j-preserved
+loop-j-preserved c =
+    let l = c in
+    let s = l in
+    let a = s.args in
+    let x = point_bits a.lows.now a.gaps.now a.q in
+    let low = c.loop-j-test.true in
+    let high = l.loop-j.invariant.0.1 in
+    let th = s.requires.2 (l.loop-j.j - 1) (omega (arith, low)) (omega (arith, low, high)) in
+    let t = c.between-x.ensures in
+    let k = c.keep_of-kept.ensures in (
+      keep_on a.f a.caps.now x l.loop-j.j low th t l.loop-j.invariant.0 k.0 k.1,
+      bits_on a.f a.caps.now x l.loop-j.j low th t a.bits.now l.loop-j.invariant.0 k.0 l.loop-j.invariant.1,
+    )
