@@ -1,4 +1,5 @@
 -- `rate_skip::reading::skip_read`: before each round, the rounds that are left give what all of them gave. Assumes nothing.
+use mathlib.Core.List.{[]}
 use Prim.Native.Nat.{suc, ◌+◌, ◌-◌, ◌≤◌}
 use mathlib.Core.Path.{◌≡◌}
 use lib.ListN.{length, get_or}

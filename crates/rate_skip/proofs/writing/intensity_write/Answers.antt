@@ -21,7 +21,7 @@ pub returns : goal.returns
 unfolding ask_intensity encoder_ask
 returns c =
     let p = c in
-    let v = p.written_of_lem in
+    let v = p.written_of-v in
     let k = p in
     let s = k in
     let a = s.args in

@@ -1,4 +1,5 @@
 -- `rate_skip::writing::skip_write`: before each round, the rounds that are left give what all of them gave. Assumes nothing.
+use mathlib.Core.List.{[]}
 use Prim.Native.Nat.{suc, ◌+◌, ◌-◌, ◌≤◌}
 use mathlib.Core.Bool.{false}
 use mathlib.Core.Path.{◌≡◌}
