@@ -9,6 +9,7 @@ use lib.Dec.{ltb}
 use lib.ListN.{length-set}
 use lib.Seq.{drop-set-lt}
 use borrow.Author.Tests.{ltb-true}
+use borrow.Author.Rules.{rules}
 use Rattle.cwrs_counts.specs.Count.{Vn}
 use Rattle.cwrs.specs.Word.{word}
 use Rattle.cwrs.proofs.Back.{tail_pulses-le, written, silent}
@@ -29,7 +30,7 @@ loop-j-preserved c =
     let m = more (goal.at.loop-j-preserved c).In-loop-j in
     let r = c.first_spot-p.result in
     let e = c.first_spot-p.ensures in
-    let back = to_z-of_z {w = w32} {z = r.value} (record { sfits = c.struct_told-1.given.0.1 }) in
+    let back = to_z-of_z {w = w32} {z = r.value} (search rules) in
     let f : a.n - l.j - 1 ≡ a.n - (l.j + 1) = omega arith in
     simp back (
       omega arith,
@@ -43,8 +44,6 @@ loop-j-preserved c =
 
 pub returns : goal.returns
 returns c =
-    let o = c in
-    let l = o.loop-j in
-    let a = o.args in
-    let q = silent l.j a.n l.left l.at o.loop-j-test.false in
+    let l = c.loop-j in
+    let q = silent l.j c.args.n l.left l.at c.loop-j-test.false in
     c.silence.ensures ∙ rw (← q, l.invariant.4, l.invariant.5)

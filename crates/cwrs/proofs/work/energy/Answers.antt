@@ -10,6 +10,7 @@ use lib.Seq.{slice}
 use mir.Syntax.{w32}
 use mir.Val.{SFits}
 use mir.Facts.{to_z-of_z}
+use borrow.Author.Rules.{rules}
 use Rattle.cwrs.specs.Word.{energy}
 use Rattle.cwrs.proofs.Words.{energy-none, energy-more, energy-le, pulses-more, pulses-drop}
 use Rattle.cwrs.proofs.work.energy.Goals as goal
@@ -29,7 +30,7 @@ facts c =
     let y = b.args.y.now in
     let n = b.args.n in
     let r = c.unsigned_abs-s.result in
-    let f : SFits w32 (get_or y (l.j - 1) (pos 0)) = record { sfits = c.v-1.given } in
+    let f : SFits w32 (get_or y (l.j - 1) (pos 0)) = search rules in
     let q : r ≡ nat_abs (get_or y (l.j - 1) (pos 0)) = c.unsigned_abs-s.ensures.0 ∙ ap nat_abs (to_z-of_z f) in
     let p = pulses-more y n l.j (omega arith) (omega arith) (omega arith) in
     let d = pulses-drop (l.j - 1) (take n y) in

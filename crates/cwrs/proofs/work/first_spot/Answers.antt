@@ -4,6 +4,7 @@ use mathlib.Core.Path.{◌≡◌, ap, ◌∙◌}
 use native.Mathlib.Omega.{arith}
 use mir.Syntax.{w32}
 use mir.Facts.{to_z-of_z}
+use borrow.Author.Rules.{rules}
 use Rattle.cwrs_counts.specs.Count.{U}
 use Rattle.cwrs_counts.proofs.Recurrence.{V_is', V_one_fewer, up1'}
 use Rattle.cwrs.proofs.Back.{first}
@@ -22,27 +23,23 @@ overflow_sub-p c = omega (arith, V_is' c.args.n c.args.k)
 
 pub reach-r-requires : goal.reach-r-requires
 reach-r-requires c =
-    let b = c in
-    (b.requires.0, b.requires.1, omega arith, c.pvq_u-u.ensures, next (goal.at.reach-r-requires c).After-pvq_u-u)
+    (c.requires.0, c.requires.1, omega arith, c.pvq_u-u.ensures, next (goal.at.reach-r-requires c).After-pvq_u-u)
 
 -- the counts where the search ended
 pub overflow_sub-result-2 : goal.overflow_sub-result-2
 overflow_sub-result-2 c =
-    let r = c in
-    let b = r in
-    omega (arith, r.reach-r.ensures.2, r.reach-r.ensures.3, up1' b.args.n r.reach-r.result.left b.requires.0)
+    let r = c.reach-r in
+    omega (arith, r.ensures.2, r.ensures.3, up1' c.args.n r.result.left c.requires.0)
 
 pub returns : goal.returns
 returns c =
-    let r = c in
-    let b = r in
-    let a = b.args in
-    let q = r.among-q in
-    let j = r.reach-r in
-    let v = c.value_of_lem in
+    let a = c.args in
+    let q = c.among-q in
+    let j = c.reach-r in
+    let v = c.value_of in
     let f = first a.n a.k a.i (next (goal.at.returns c).After-pvq_u-u) q.ensures.0 j.ensures.0 in (
-      to_z-of_z {w = w32} (record { sfits = v.type-inv }) ∙ v.ensures ∙ f.value,
+      to_z-of_z {w = w32} {z = v.result} (search rules) ∙ v.ensures ∙ f.value,
       f.left,
       ap (λ (x : ℕ). q.result - x) j.ensures.2 ∙ f.rest,
-      omega (arith, j.ensures.2, j.ensures.3, V_one_fewer a.n j.result.left b.requires.0),
+      omega (arith, j.ensures.2, j.ensures.3, V_one_fewer a.n j.result.left c.requires.0),
     )

@@ -9,6 +9,7 @@ use mir.Syntax.{w32}
 use mir.Val.{SFits, to_z, of_z}
 use Rattle.laws.specs.Signs.{is_neg}
 use mir.Facts.{to_z-of_z}
+use borrow.Author.Rules.{rules}
 use Rattle.cwrs.proofs.Words.{pulses-none, index-none, NextPlace, next_place}
 use Rattle.cwrs.proofs.work.icwrs.Goals as goal
 use Rattle.cwrs.proofs.work.icwrs.Goals.{After-unsigned_abs, In-loop-j}
@@ -28,7 +29,7 @@ place c =
     get_or p.args.y.now (p.loop-j.j - 1) (pos 0)
 
 held : (c : After-unsigned_abs) → SFits w32 (place c)
-held c = record { sfits = c.v-1.given }
+held c = search rules
 
 -- and with it
 second : (c : After-unsigned_abs) → let p = c in

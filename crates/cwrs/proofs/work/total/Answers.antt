@@ -4,6 +4,7 @@ use lib.ListN.{get_or}
 use mir.Syntax.{w32}
 use mir.Val.{SFits}
 use mir.Facts.{to_z-of_z}
+use borrow.Author.Rules.{rules}
 use Rattle.cwrs.proofs.Words.{pulses-none, pulses-more}
 use mathlib.Core.Path.{◌≡◌, ap, ◌∙◌}
 use Prim.Native.Nat.{◌-◌}
@@ -18,6 +19,6 @@ loop-j-preserved c =
     let a = c.args in
     let j = c.loop-j.j in
     let e = pulses-more a.y.now a.n j (omega arith) (omega arith) (omega arith) in
-    let f : SFits w32 (get_or a.y.now (j - 1) (pos 0)) = record { sfits = c.v-1.given } in
+    let f : SFits w32 (get_or a.y.now (j - 1) (pos 0)) = search rules in
     let q : c.unsigned_abs.result ≡ nat_abs (get_or a.y.now (j - 1) (pos 0)) = c.unsigned_abs.ensures.0 ∙ ap nat_abs (to_z-of_z f) in
     (omega arith, omega arith, omega arith)
