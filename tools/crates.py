@@ -11,9 +11,9 @@ ROOT = os.path.dirname(os.path.dirname(os.path.abspath(__file__)))
 
 
 def parse(text):
-    """The crates of a text like crates.txt, in its order, each with all that its line names."""
+    """The crates of a text like crates.txt, in its order, each with all that its line names. After a crate's name may stand what it is, as `staticlib`."""
     lines = [line.split("#")[0] for line in text.split("\n")]
-    return {line.split(":")[0].strip(): line.split(":")[1].split() for line in lines if ":" in line}
+    return {line.split(":")[0].split()[0]: line.split(":")[1].split() for line in lines if ":" in line}
 
 
 def named(root=ROOT):

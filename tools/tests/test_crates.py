@@ -18,6 +18,9 @@ class Crates(unittest.TestCase):
     def test_comments_and_blanks(self):
         self.assertEqual(crates.parse(TEXT), {"leaf": [], "middle": ["leaf"], "beside": ["leaf", "io"], "top": ["middle", "beside", "libc"]})
 
+    def test_what_a_crate_is_stands_after_its_name(self):
+        self.assertEqual(crates.parse("a staticlib: b\nb:\nc status=2: b\n"), {"a": ["b"], "b": [], "c": ["b"]})
+
     def test_libraries_of_the_kit_are_not_of_this_repository(self):
         self.assertEqual(crates.here(crates.parse(TEXT))["top"], ["middle", "beside"])
 
@@ -55,13 +58,13 @@ class Needed(unittest.TestCase):
         return needed.needed(files, lines)
 
     def test_a_name_in_a_comment_is_no_need(self):
-        kept = self.kept({"a": [], "b": ["a"]}, b_src="// as a::f does\npub fn g() {\n}\n", b_specs="-- Rattle·a.specs.M has it\n")
+        kept = self.kept({"a": [], "b": ["a"]}, b_src="// as a::f does\npub fn g() {\n}\n", b_specs="-- Rattle.a.specs.M has it\n")
         self.assertEqual(kept["b"], [])
 
     def test_a_call_a_contract_and_a_proof_are_needs(self):
         lines = {"a": [], "b": [], "c": [], "d": ["a", "b", "c"]}
-        src = "ghost use Rattle·b.specs.M.{x};\npub fn g() {\n    a::f()\n}\n"
-        self.assertEqual(self.kept(lines, d_src=src, d_proofs="use Rattle·c.proofs.M.{y}\n")["d"], ["a", "b", "c"])
+        src = "ghost use Rattle.b.specs.M.{x};\npub fn g() {\n    a::f()\n}\n"
+        self.assertEqual(self.kept(lines, d_src=src, d_proofs="use Rattle.c.proofs.M.{y}\n")["d"], ["a", "b", "c"])
 
     def test_the_type_within_what_a_call_answers_is_a_need(self):
         lines = {"sink": [], "writer": ["sink"], "user": ["sink", "writer"], "idle": ["sink", "writer"]}
@@ -77,6 +80,7 @@ class Needed(unittest.TestCase):
 
     def test_comments_of_the_list_stay(self):
         self.assertEqual(needed.rewritten("# a: b\na: b c  # why\nb:\n", {"a": ["c"], "b": []}), "# a: b\na: c  # why\nb:\n")
+        self.assertEqual(needed.rewritten("a staticlib: b c\nb:\n", {"a": ["c"], "b": []}), "a staticlib: c\nb:\n")
 
 
 if __name__ == "__main__":
