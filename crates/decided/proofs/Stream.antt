@@ -2,27 +2,30 @@
 use Prim.Native.Nat.{ℕ}
 use Rattle.decided.proofs.One.{one}
 use Rattle.entdec.specs.declared.Reader.{Reader}
+use Rattle.std.specs.Prelude.{◌≡◌}
 use Rattle.stream.specs.Frame.{call, framed, fresh, ordered}
 use Rattle.stream.specs.declared.Framed.{Framed}
 use Rattle.stream.specs.declared.Record.{Record}
 use lib.IntN.{ℤ}
 use mathlib.Core.List.{List}
-use mathlib.Core.Path.{◌≡◌}
 
 -- order
 pub order : (next : ℕ) (number : ℕ) (r₁ r₂ : ℕ)
     → r₁ ≡ ordered next number → r₂ ≡ ordered next number
     → r₁ ≡ r₂
-order next number r₁ r₂ e₁ e₂ = one e₁ e₂
+order next number r₁ r₂ e₁ e₂ =
+    one e₁ e₂
 
 -- Record::fresh
 pub Record_fresh : (r₁ r₂ : Record)
     → r₁ ≡ fresh → r₂ ≡ fresh
     → r₁ ≡ r₂
-Record_fresh r₁ r₂ e₁ e₂ = one e₁ e₂
+Record_fresh r₁ r₂ e₁ e₂ =
+    one e₁ e₂
 
 -- Record::frame
 pub Record_frame : (self : Record) (d : Reader) (s : List ℕ) (number : ℕ) (c : ℤ) (lm : ℤ) (start : ℤ) (end : ℤ) (intra : ℤ) (r₁ r₂ : Framed)
     → r₁ ≡ framed self (call d s number c lm start end intra) → r₂ ≡ framed self (call d s number c lm start end intra)
     → r₁ ≡ r₂
-Record_frame self d s number c lm start end intra r₁ r₂ e₁ e₂ = one e₁ e₂
+Record_frame self d s number c lm start end intra r₁ r₂ e₁ e₂ =
+    one e₁ e₂

@@ -2,17 +2,18 @@
 use Prim.Native.Nat.{ℕ}
 use Rattle.decided.proofs.One.{one}
 use Rattle.entdec.specs.declared.Reader.{Reader}
-use Rattle.vq.proofs.Said.{said_same as vq-said-same}
+use Rattle.std.specs.Prelude.{◌≡◌}
+use Rattle.vq.proofs.Said.{said_same as vq_said_same}
 use Rattle.vq.specs.Answer.{After, after, shape_request, unquantised}
 use Rattle.vq.specs.declared.Shaped.{Shaped}
 use lib.Ieee.{Float}
 use lib.IntN.{ℤ}
 use mathlib.Core.List.{List}
-use mathlib.Core.Path.{◌≡◌, ap}
+use mathlib.Core.Path.{ap}
 
 -- alg_unquant
-pub alg_unquant : (d : Reader) (s : List ℕ) (shape : List Float) (n : ℤ) (k : ℤ) (spread : ℤ) (b : ℤ) (gain : Float) (r₁ r₂ : Shaped) (shape-after₁ shape-after₂ : List Float)
-    → after r₁ shape-after₁ ≡ unquantised (shape_request n k spread b gain) s d shape → after r₂ shape-after₂ ≡ unquantised (shape_request n k spread b gain) s d shape
-    → (r₁ ≡ r₂) × (shape-after₁ ≡ shape-after₂)
-alg_unquant d s shape n k spread b gain r₁ r₂ shape-after₁ shape-after₂ e₁ e₂ =
-    (vq-said-same (ap (λ (x : After). x.said) (one e₁ e₂)), ap (λ (x : After). x.shape) (one e₁ e₂))
+pub alg_unquant : (d : Reader) (s : List ℕ) (shape : List Float) (n : ℤ) (k : ℤ) (spread : ℤ) (b : ℤ) (gain : Float) (r₁ r₂ : Shaped) (shape_after₁ shape_after₂ : List Float)
+    → after r₁ shape_after₁ ≡ unquantised (shape_request n k spread b gain) s d shape → after r₂ shape_after₂ ≡ unquantised (shape_request n k spread b gain) s d shape
+    → (r₁ ≡ r₂) × (shape_after₁ ≡ shape_after₂)
+alg_unquant d s shape n k spread b gain r₁ r₂ shape_after₁ shape_after₂ e₁ e₂ =
+    (vq_said_same (ap (λ (x : After). x.said) (one e₁ e₂)), ap (λ (x : After). x.shape) (one e₁ e₂))

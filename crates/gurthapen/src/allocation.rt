@@ -1,7 +1,7 @@
 // The bit allocation: the calls of rate.
 ghost use Rattle.std.specs.Prelude.{◌≡◌};
 ghost use Rattle.rate.specs.Question.{lists, alloc_numbers, wishes};
-ghost use Rattle.gurthapen_answer.specs.Result.{result};
+ghost use Rattle.gurthapen_answer.specs.Result as answer;
 ghost use Rattle.gurthapen.specs.Allocation.{reads, writes};
 
 use gurthapen_answer::allocation::{leave_alloc_read, leave_alloc_write};
@@ -9,8 +9,7 @@ use gurthapen_state::load::{is_stored, load_reader, load_writer};
 use rate::{AllocNumbers, Wishes};
 
 // Reads an allocation: the bands go into three lists, coded bands, balance, intensity and dual stereo into shown.
-#[unsafe(no_mangle)]
-pub extern "C" fn gurthapen_compute_allocation_read(
+pub fn gurthapen_compute_allocation_read(
     state: &mut [i64],
     s: &[u8],
     c: i32,
@@ -26,10 +25,9 @@ pub extern "C" fn gurthapen_compute_allocation_read(
     priorities: &mut [i32],
     shown: &mut [i32],
 ) -> u32
-    ensures* { λ r.
-        ⌜ result r ((state.new, shown.new), lists pulses.new fine.new priorities.new)
+    ensures { answer.result result ((state.new, shown.new), lists pulses.new fine.new priorities.new)
         ≡ reads (alloc_numbers c lm start end trim total) offsets.now caps.now s.now state.old shown.old
-        (lists pulses.old fine.old priorities.old) ⌝ }
+        (lists pulses.old fine.old priorities.old) }
 {
     if is_stored(state) & (shown.len() == 4) {
         let d = load_reader(state);
@@ -48,8 +46,7 @@ pub extern "C" fn gurthapen_compute_allocation_read(
 }
 
 // Writes an allocation.
-#[unsafe(no_mangle)]
-pub extern "C" fn gurthapen_compute_allocation_write(
+pub fn gurthapen_compute_allocation_write(
     state: &mut [i64],
     buf: &mut [u8],
     c: i32,
@@ -69,10 +66,9 @@ pub extern "C" fn gurthapen_compute_allocation_write(
     priorities: &mut [i32],
     shown: &mut [i32],
 ) -> u32
-    ensures* { λ r.
-        ⌜ result r ((state.new, shown.new), (lists pulses.new fine.new priorities.new, buf.new))
+    ensures { answer.result result ((state.new, shown.new), (lists pulses.new fine.new priorities.new, buf.new))
         ≡ writes (alloc_numbers c lm start end trim total) (wishes intensity dual previous bandwidth) offsets.now caps.now
-        state.old shown.old (lists pulses.old fine.old priorities.old) buf.old ⌝ }
+        state.old shown.old (lists pulses.old fine.old priorities.old) buf.old }
 {
     if is_stored(state) & (shown.len() == 4) {
         let w = load_writer(state);

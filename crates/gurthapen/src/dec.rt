@@ -1,7 +1,7 @@
 // Reading symbols: the calls of entdec.
 ghost use Rattle.std.specs.Prelude.{◌≡◌};
 ghost use Rattle.entcode.specs.Sym.Shape.{bit, table, uint, raw};
-ghost use Rattle.gurthapen_answer.specs.Result.{result};
+ghost use Rattle.gurthapen_answer.specs.Result as answer;
 ghost use Rattle.gurthapen.specs.Dec.{starts, reads, tells, tells_frac};
 
 use entdec::Reader;
@@ -9,9 +9,8 @@ use gurthapen_answer::dec::{leave_read, leave_start, leave_tell};
 use gurthapen_state::load::{is_stored, load_reader};
 
 // A new reader of the packet s.
-#[unsafe(no_mangle)]
-pub extern "C" fn gurthapen_dec_new(state: &mut [i64], s: &[u8]) -> u32
-    ensures* { λ r. ⌜ result r state.new ≡ starts s.now state.old ⌝ }
+pub fn gurthapen_dec_new(state: &mut [i64], s: &[u8]) -> u32
+    ensures { answer.result result state.new ≡ starts s.now state.old }
 {
     if state.len() == 12 {
         let a = Reader::new(s);
@@ -21,15 +20,8 @@ pub extern "C" fn gurthapen_dec_new(state: &mut [i64], s: &[u8]) -> u32
 }
 
 // One bit that is 1 with a probability of 1 in 2^logp.
-#[unsafe(no_mangle)]
-pub extern "C" fn gurthapen_dec_bit_logp(
-    state: &mut [i64],
-    s: &[u8],
-    logp: u32,
-    value: &mut [u32],
-) -> u32
-    ensures* { λ r.
-        ⌜ result r (state.new, value.new) ≡ reads (bit logp) s.now state.old value.old ⌝ }
+pub fn gurthapen_dec_bit_logp(state: &mut [i64], s: &[u8], logp: u32, value: &mut [u32]) -> u32
+    ensures { answer.result result (state.new, value.new) ≡ reads (bit logp) s.now state.old value.old }
 {
     if is_stored(state) & (value.len() == 1) {
         let d = load_reader(state);
@@ -40,16 +32,8 @@ pub extern "C" fn gurthapen_dec_bit_logp(
 }
 
 // A symbol of a table of 2^ftb places.
-#[unsafe(no_mangle)]
-pub extern "C" fn gurthapen_dec_icdf(
-    state: &mut [i64],
-    s: &[u8],
-    t: &[u8],
-    ftb: u32,
-    value: &mut [u32],
-) -> u32
-    ensures* { λ r.
-        ⌜ result r (state.new, value.new) ≡ reads (table t.now ftb) s.now state.old value.old ⌝ }
+pub fn gurthapen_dec_icdf(state: &mut [i64], s: &[u8], t: &[u8], ftb: u32, value: &mut [u32]) -> u32
+    ensures { answer.result result (state.new, value.new) ≡ reads (table t.now ftb) s.now state.old value.old }
 {
     if is_stored(state) & (value.len() == 1) {
         let d = load_reader(state);
@@ -60,10 +44,8 @@ pub extern "C" fn gurthapen_dec_icdf(
 }
 
 // A number below ft, all alike.
-#[unsafe(no_mangle)]
-pub extern "C" fn gurthapen_dec_uint(state: &mut [i64], s: &[u8], ft: u32, value: &mut [u32]) -> u32
-    ensures* { λ r.
-        ⌜ result r (state.new, value.new) ≡ reads (uint ft) s.now state.old value.old ⌝ }
+pub fn gurthapen_dec_uint(state: &mut [i64], s: &[u8], ft: u32, value: &mut [u32]) -> u32
+    ensures { answer.result result (state.new, value.new) ≡ reads (uint ft) s.now state.old value.old }
 {
     if is_stored(state) & (value.len() == 1) {
         let d = load_reader(state);
@@ -74,10 +56,8 @@ pub extern "C" fn gurthapen_dec_uint(state: &mut [i64], s: &[u8], ft: u32, value
 }
 
 // n raw bits from the end of the packet.
-#[unsafe(no_mangle)]
-pub extern "C" fn gurthapen_dec_bits(state: &mut [i64], s: &[u8], n: u32, value: &mut [u32]) -> u32
-    ensures* { λ r.
-        ⌜ result r (state.new, value.new) ≡ reads (raw n) s.now state.old value.old ⌝ }
+pub fn gurthapen_dec_bits(state: &mut [i64], s: &[u8], n: u32, value: &mut [u32]) -> u32
+    ensures { answer.result result (state.new, value.new) ≡ reads (raw n) s.now state.old value.old }
 {
     if is_stored(state) & (value.len() == 1) {
         let d = load_reader(state);
@@ -88,9 +68,8 @@ pub extern "C" fn gurthapen_dec_bits(state: &mut [i64], s: &[u8], n: u32, value:
 }
 
 // How many bits are used.
-#[unsafe(no_mangle)]
-pub extern "C" fn gurthapen_dec_tell(state: &[i64], value: &mut [u32]) -> u32
-    ensures* { λ r. ⌜ result r value.new ≡ tells state.now value.old ⌝ }
+pub fn gurthapen_dec_tell(state: &[i64], value: &mut [u32]) -> u32
+    ensures { answer.result result value.new ≡ tells state.now value.old }
 {
     if (state.len() == 12) & (value.len() == 1) {
         let d = load_reader(state);
@@ -101,9 +80,8 @@ pub extern "C" fn gurthapen_dec_tell(state: &[i64], value: &mut [u32]) -> u32
 }
 
 // How many eighths of a bit are used.
-#[unsafe(no_mangle)]
-pub extern "C" fn gurthapen_dec_tell_frac(state: &[i64], value: &mut [u32]) -> u32
-    ensures* { λ r. ⌜ result r value.new ≡ tells_frac state.now value.old ⌝ }
+pub fn gurthapen_dec_tell_frac(state: &[i64], value: &mut [u32]) -> u32
+    ensures { answer.result result value.new ≡ tells_frac state.now value.old }
 {
     if (state.len() == 12) & (value.len() == 1) {
         let d = load_reader(state);

@@ -1,7 +1,7 @@
 // Writing symbols: the calls of entenc.
 ghost use Rattle.std.specs.Prelude.{◌≡◌};
 ghost use Rattle.entcode.specs.Sym.Shape.{bit, table, uint, raw};
-ghost use Rattle.gurthapen_answer.specs.Result.{result};
+ghost use Rattle.gurthapen_answer.specs.Result as answer;
 ghost use Rattle.gurthapen.specs.Enc.{starts, writes, closes, tells, tells_frac};
 
 use entenc::Writer;
@@ -10,9 +10,8 @@ use gurthapen_answer::enc::leave_write;
 use gurthapen_state::load::{is_stored, load_writer};
 
 // A new writer over the bytes buf.
-#[unsafe(no_mangle)]
-pub extern "C" fn gurthapen_enc_new(state: &mut [i64], buf: &[u8]) -> u32
-    ensures* { λ r. ⌜ result r state.new ≡ starts buf.now state.old ⌝ }
+pub fn gurthapen_enc_new(state: &mut [i64], buf: &[u8]) -> u32
+    ensures { answer.result result state.new ≡ starts buf.now state.old }
 {
     if state.len() == 12 {
         let a = Writer::new(buf);
@@ -22,14 +21,8 @@ pub extern "C" fn gurthapen_enc_new(state: &mut [i64], buf: &[u8]) -> u32
 }
 
 // One bit, which is 1 in one of 2^logp places.
-#[unsafe(no_mangle)]
-pub extern "C" fn gurthapen_enc_bit_logp(
-    state: &mut [i64],
-    buf: &mut [u8],
-    value: u32,
-    logp: u32,
-) -> u32
-    ensures* { λ r. ⌜ result r (state.new, buf.new) ≡ writes (bit logp) value state.old buf.old ⌝ }
+pub fn gurthapen_enc_bit_logp(state: &mut [i64], buf: &mut [u8], value: u32, logp: u32) -> u32
+    ensures { answer.result result (state.new, buf.new) ≡ writes (bit logp) value state.old buf.old }
 {
     if is_stored(state) {
         let w = load_writer(state);
@@ -40,15 +33,8 @@ pub extern "C" fn gurthapen_enc_bit_logp(
 }
 
 // The symbol s of a table of 2^ftb places.
-#[unsafe(no_mangle)]
-pub extern "C" fn gurthapen_enc_icdf(
-    state: &mut [i64],
-    buf: &mut [u8],
-    s: u32,
-    t: &[u8],
-    ftb: u32,
-) -> u32
-    ensures* { λ r. ⌜ result r (state.new, buf.new) ≡ writes (table t.now ftb) s state.old buf.old ⌝ }
+pub fn gurthapen_enc_icdf(state: &mut [i64], buf: &mut [u8], s: u32, t: &[u8], ftb: u32) -> u32
+    ensures { answer.result result (state.new, buf.new) ≡ writes (table t.now ftb) s state.old buf.old }
 {
     if is_stored(state) {
         let w = load_writer(state);
@@ -59,9 +45,8 @@ pub extern "C" fn gurthapen_enc_icdf(
 }
 
 // A number fl below ft.
-#[unsafe(no_mangle)]
-pub extern "C" fn gurthapen_enc_uint(state: &mut [i64], buf: &mut [u8], fl: u32, ft: u32) -> u32
-    ensures* { λ r. ⌜ result r (state.new, buf.new) ≡ writes (uint ft) fl state.old buf.old ⌝ }
+pub fn gurthapen_enc_uint(state: &mut [i64], buf: &mut [u8], fl: u32, ft: u32) -> u32
+    ensures { answer.result result (state.new, buf.new) ≡ writes (uint ft) fl state.old buf.old }
 {
     if is_stored(state) {
         let w = load_writer(state);
@@ -72,9 +57,8 @@ pub extern "C" fn gurthapen_enc_uint(state: &mut [i64], buf: &mut [u8], fl: u32,
 }
 
 // n raw bits of v.
-#[unsafe(no_mangle)]
-pub extern "C" fn gurthapen_enc_bits(state: &mut [i64], buf: &mut [u8], v: u32, n: u32) -> u32
-    ensures* { λ r. ⌜ result r (state.new, buf.new) ≡ writes (raw n) v state.old buf.old ⌝ }
+pub fn gurthapen_enc_bits(state: &mut [i64], buf: &mut [u8], v: u32, n: u32) -> u32
+    ensures { answer.result result (state.new, buf.new) ≡ writes (raw n) v state.old buf.old }
 {
     if is_stored(state) {
         let w = load_writer(state);
@@ -85,9 +69,8 @@ pub extern "C" fn gurthapen_enc_bits(state: &mut [i64], buf: &mut [u8], v: u32, 
 }
 
 // The last bytes; nothing may be written after it.
-#[unsafe(no_mangle)]
-pub extern "C" fn gurthapen_enc_close(state: &mut [i64], buf: &mut [u8]) -> u32
-    ensures* { λ r. ⌜ result r (state.new, buf.new) ≡ closes state.old buf.old ⌝ }
+pub fn gurthapen_enc_close(state: &mut [i64], buf: &mut [u8]) -> u32
+    ensures { answer.result result (state.new, buf.new) ≡ closes state.old buf.old }
 {
     if is_stored(state) {
         let w = load_writer(state);
@@ -98,9 +81,8 @@ pub extern "C" fn gurthapen_enc_close(state: &mut [i64], buf: &mut [u8]) -> u32
 }
 
 // How many bits are used.
-#[unsafe(no_mangle)]
-pub extern "C" fn gurthapen_enc_tell(state: &[i64], value: &mut [u32]) -> u32
-    ensures* { λ r. ⌜ result r value.new ≡ tells state.now value.old ⌝ }
+pub fn gurthapen_enc_tell(state: &[i64], value: &mut [u32]) -> u32
+    ensures { answer.result result value.new ≡ tells state.now value.old }
 {
     if (state.len() == 12) & (value.len() == 1) {
         let w = load_writer(state);
@@ -111,9 +93,8 @@ pub extern "C" fn gurthapen_enc_tell(state: &[i64], value: &mut [u32]) -> u32
 }
 
 // How many eighths of a bit are used.
-#[unsafe(no_mangle)]
-pub extern "C" fn gurthapen_enc_tell_frac(state: &[i64], value: &mut [u32]) -> u32
-    ensures* { λ r. ⌜ result r value.new ≡ tells_frac state.now value.old ⌝ }
+pub fn gurthapen_enc_tell_frac(state: &[i64], value: &mut [u32]) -> u32
+    ensures { answer.result result value.new ≡ tells_frac state.now value.old }
 {
     if (state.len() == 12) & (value.len() == 1) {
         let w = load_writer(state);

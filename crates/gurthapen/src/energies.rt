@@ -7,8 +7,7 @@ use gurthapen_answer::energies::leave_energies;
 use gurthapen_state::load::{is_stored, load_reader};
 
 // The coarse energies of the bands start..end-1, in place.
-#[unsafe(no_mangle)]
-pub extern "C" fn gurthapen_unquant_coarse_energy(
+pub fn gurthapen_unquant_coarse_energy(
     state: &mut [i64],
     s: &[u8],
     energies: &mut [f32],
@@ -30,8 +29,7 @@ pub extern "C" fn gurthapen_unquant_coarse_energy(
 }
 
 // The bits left over, spent on the energies of the bands start..end-1, in place.
-#[unsafe(no_mangle)]
-pub extern "C" fn gurthapen_unquant_energy_finalise(
+pub fn gurthapen_unquant_energy_finalise(
     state: &mut [i64],
     s: &[u8],
     energies: &mut [f32],

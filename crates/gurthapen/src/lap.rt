@@ -1,22 +1,20 @@
 // Laplace values: the calls of laplace.
 ghost use Rattle.std.specs.Prelude.{◌≡◌};
-ghost use Rattle.gurthapen_answer.specs.Result.{result};
+ghost use Rattle.gurthapen_answer.specs.Result as answer;
 ghost use Rattle.gurthapen.specs.Lap.{decodes, encodes};
 
 use gurthapen_answer::lap::{leave_done, leave_value};
 use gurthapen_state::load::{is_stored, load_reader, load_writer};
 
 // A Laplace value of the pair fs and decay.
-#[unsafe(no_mangle)]
-pub extern "C" fn gurthapen_laplace_decode(
+pub fn gurthapen_laplace_decode(
     state: &mut [i64],
     s: &[u8],
     fs: u32,
     decay: u32,
     value: &mut [i32],
 ) -> u32
-    ensures* { λ r.
-        ⌜ result r (state.new, value.new) ≡ decodes fs decay s.now state.old value.old ⌝ }
+    ensures { answer.result result (state.new, value.new) ≡ decodes fs decay s.now state.old value.old }
 {
     if is_stored(state) & (value.len() == 1) {
         let d = load_reader(state);
@@ -27,8 +25,7 @@ pub extern "C" fn gurthapen_laplace_decode(
 }
 
 // The Laplace value z of the pair fs and decay; what counts as written goes into value.
-#[unsafe(no_mangle)]
-pub extern "C" fn gurthapen_laplace_encode(
+pub fn gurthapen_laplace_encode(
     state: &mut [i64],
     buf: &mut [u8],
     z: i32,
@@ -36,9 +33,8 @@ pub extern "C" fn gurthapen_laplace_encode(
     decay: u32,
     value: &mut [i32],
 ) -> u32
-    ensures* { λ r.
-        ⌜ result r ((state.new, value.new), buf.new)
-        ≡ encodes fs decay z state.old value.old buf.old ⌝ }
+    ensures { answer.result result ((state.new, value.new), buf.new)
+        ≡ encodes fs decay z state.old value.old buf.old }
 {
     if is_stored(state) & (value.len() == 1) {
         let w = load_writer(state);

@@ -3,14 +3,14 @@
 // number. The answer is 0, or the number of the refusal, which leaves every list as it was.
 #![tactic(auto)]
 
-mod allocation;
-mod dec;
-mod enc;
-mod energies;
-mod lap;
-mod lookups;
-mod pulses;
-mod record;
-mod requests;
-mod shapes;
-mod trips;
+pub mod allocation;
+pub mod dec;
+pub mod enc;
+pub mod energies;
+pub mod lap;
+pub mod lookups;
+pub mod pulses;
+pub mod record;
+pub mod requests;
+pub mod shapes;
+pub mod trips;

@@ -1,6 +1,6 @@
 // Pulse words: the calls of cwrs.
 ghost use Rattle.std.specs.Prelude.{◌≡◌};
-ghost use Rattle.gurthapen_answer.specs.Result.{result};
+ghost use Rattle.gurthapen_answer.specs.Result as answer;
 ghost use Rattle.gurthapen.specs.Pulses.{decodes, encodes};
 
 use gurthapen_answer::enc::leave_write;
@@ -8,8 +8,7 @@ use gurthapen_answer::pulses::leave_found;
 use gurthapen_state::load::{is_stored, load_reader, load_writer};
 
 // A vector of n places and k pulses into the first n of 176 places.
-#[unsafe(no_mangle)]
-pub extern "C" fn gurthapen_decode_pulses(
+pub fn gurthapen_decode_pulses(
     state: &mut [i64],
     s: &[u8],
     y: &mut [i32],
@@ -17,9 +16,8 @@ pub extern "C" fn gurthapen_decode_pulses(
     k: u32,
     energy: &mut [u32],
 ) -> u32
-    ensures* { λ r.
-        ⌜ result r ((state.new, energy.new), y.new)
-        ≡ decodes n k s.now state.old energy.old y.old ⌝ }
+    ensures { answer.result result ((state.new, energy.new), y.new)
+        ≡ decodes n k s.now state.old energy.old y.old }
 {
     if is_stored(state) & (energy.len() == 1) {
         let d = load_reader(state);
@@ -30,15 +28,8 @@ pub extern "C" fn gurthapen_decode_pulses(
 }
 
 // The vector of k pulses that stands in the first n of 176 places.
-#[unsafe(no_mangle)]
-pub extern "C" fn gurthapen_encode_pulses(
-    state: &mut [i64],
-    buf: &mut [u8],
-    y: &[i32],
-    n: u32,
-    k: u32,
-) -> u32
-    ensures* { λ r. ⌜ result r (state.new, buf.new) ≡ encodes n k y.now state.old buf.old ⌝ }
+pub fn gurthapen_encode_pulses(state: &mut [i64], buf: &mut [u8], y: &[i32], n: u32, k: u32) -> u32
+    ensures { answer.result result (state.new, buf.new) ≡ encodes n k y.now state.old buf.old }
 {
     if is_stored(state) {
         let w = load_writer(state);

@@ -1,7 +1,7 @@
 // The stream record: the calls of stream and stream_saved.
 ghost use Rattle.std.specs.Prelude.{◌≡◌};
 ghost use Rattle.stream.specs.Frame.{ordered};
-ghost use Rattle.gurthapen_answer.specs.Result.{result};
+ghost use Rattle.gurthapen_answer.specs.Result as answer;
 ghost use Rattle.gurthapen.specs.Record.{freshes, frames, saves, restores};
 
 use gurthapen_answer::record::{leave_frame, leave_line, leave_restored};
@@ -10,9 +10,8 @@ use gurthapen_state::record::{load_record, store_record};
 use stream::Record;
 
 // A record to which no frame was applied.
-#[unsafe(no_mangle)]
-pub extern "C" fn gurthapen_record_fresh(energies: &mut [f32], next: &mut [u64]) -> u32
-    ensures* { λ r. ⌜ result r (energies.new, next.new) ≡ freshes energies.old next.old ⌝ }
+pub fn gurthapen_record_fresh(energies: &mut [f32], next: &mut [u64]) -> u32
+    ensures { answer.result result (energies.new, next.new) ≡ freshes energies.old next.old }
 {
     if (energies.len() == 42) & (next.len() == 1) {
         let rec = Record::fresh();
@@ -23,16 +22,14 @@ pub extern "C" fn gurthapen_record_fresh(energies: &mut [f32], next: &mut [u64])
 }
 
 // A frame's number against the record's next, each in its domain.
-#[unsafe(no_mangle)]
-pub extern "C" fn gurthapen_record_order(next: u64, number: u64) -> u32
-    ensures* { λ r. ⌜ r ≡ ordered next number ⌝ }
+pub fn gurthapen_record_order(next: u64, number: u64) -> u32
+    ensures { result ≡ ordered next number }
 {
     stream::order(next, number)
 }
 
 // Frame `number`, whose coarse energies the state stands before in the packet s. The record is read once every length is right.
-#[unsafe(no_mangle)]
-pub extern "C" fn gurthapen_record_frame(
+pub fn gurthapen_record_frame(
     energies: &mut [f32],
     next: &mut [u64],
     state: &mut [i64],
@@ -44,9 +41,8 @@ pub extern "C" fn gurthapen_record_frame(
     end: i32,
     intra: i32,
 ) -> u32
-    ensures* { λ r.
-        ⌜ result r ((energies.new, next.new), state.new)
-        ≡ frames s.now number c lm start end intra energies.old next.old state.old ⌝ }
+    ensures { answer.result result ((energies.new, next.new), state.new)
+        ≡ frames s.now number c lm start end intra energies.old next.old state.old }
 {
     if (energies.len() == 42) & (next.len() == 1) & is_stored(state) {
         let d = load_reader(state);
@@ -61,14 +57,13 @@ pub extern "C" fn gurthapen_record_frame(
 }
 
 // A record's line, without a line feed, at the front of buf. The record is read once every length is right.
-#[unsafe(no_mangle)]
-pub extern "C" fn gurthapen_record_save(
+pub fn gurthapen_record_save(
     energies: &[f32],
     next: u64,
     buf: &mut [u8],
     length: &mut [usize],
 ) -> u32
-    ensures* { λ r. ⌜ result r (length.new, buf.new) ≡ saves energies.now next length.old buf.old ⌝ }
+    ensures { answer.result result (length.new, buf.new) ≡ saves energies.now next length.old buf.old }
 {
     if (energies.len() == 42) & (length.len() == 1) {
         if buf.len() < 390 {
@@ -82,14 +77,8 @@ pub extern "C" fn gurthapen_record_save(
 }
 
 // The record that a line, without its line feed, stands for.
-#[unsafe(no_mangle)]
-pub extern "C" fn gurthapen_record_restore(
-    line: &[u8],
-    energies: &mut [f32],
-    next: &mut [u64],
-) -> u32
-    ensures* { λ r.
-        ⌜ result r (energies.new, next.new) ≡ restores line.now energies.old next.old ⌝ }
+pub fn gurthapen_record_restore(line: &[u8], energies: &mut [f32], next: &mut [u64]) -> u32
+    ensures { answer.result result (energies.new, next.new) ≡ restores line.now energies.old next.old }
 {
     if (energies.len() == 42) & (next.len() == 1) {
         let a = stream_saved::restore(line);

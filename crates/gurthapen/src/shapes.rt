@@ -1,15 +1,14 @@
 // Shapes of bands: the call of vq.
 ghost use Rattle.std.specs.Prelude.{◌≡◌};
 ghost use Rattle.vq.specs.Answer.{shape_request};
-ghost use Rattle.gurthapen_answer.specs.Result.{result};
+ghost use Rattle.gurthapen_answer.specs.Result as answer;
 ghost use Rattle.gurthapen.specs.Shapes.{unquants};
 
 use gurthapen_answer::shapes::leave_shape;
 use gurthapen_state::load::{is_stored, load_reader};
 
 // A shape of n places and k pulses with that gain; its collapse mask goes into mask.
-#[unsafe(no_mangle)]
-pub extern "C" fn gurthapen_alg_unquant(
+pub fn gurthapen_alg_unquant(
     state: &mut [i64],
     s: &[u8],
     shape: &mut [f32],
@@ -20,9 +19,8 @@ pub extern "C" fn gurthapen_alg_unquant(
     gain: f32,
     mask: &mut [u32],
 ) -> u32
-    ensures* { λ r.
-        ⌜ result r ((state.new, mask.new), shape.new)
-        ≡ unquants (shape_request n k spread b gain) s.now state.old mask.old shape.old ⌝ }
+    ensures { answer.result result ((state.new, mask.new), shape.new)
+        ≡ unquants (shape_request n k spread b gain) s.now state.old mask.old shape.old }
 {
     if is_stored(state) & (mask.len() == 1) {
         let d = load_reader(state);

@@ -1,7 +1,7 @@
 // What is written is read back: the call of trip_call.
 ghost use Rattle.std.specs.Prelude.{◌≡◌};
 ghost use Rattle.rate.specs.Question.{alloc_numbers, wishes};
-ghost use Rattle.gurthapen_answer.specs.Result.{result};
+ghost use Rattle.gurthapen_answer.specs.Result as answer;
 ghost use Rattle.gurthapen.specs.Trips.{trips};
 
 use gurthapen_trip::leave_trip;
@@ -9,8 +9,7 @@ use rate::{AllocNumbers, Wishes};
 
 // Symbols, five numbers each, and an allocation are written over the bytes, closed, read back and compared; how it ended goes into outcome. Symbols that
 // are no list of symbols are refused.
-#[unsafe(no_mangle)]
-pub extern "C" fn gurthapen_round_trip(
+pub fn gurthapen_round_trip(
     bytes: &[u8],
     symbols: &[u32],
     tables: &[u8],
@@ -28,10 +27,9 @@ pub extern "C" fn gurthapen_round_trip(
     caps: &[i32],
     outcome: &mut [u64],
 ) -> u32
-    ensures* { λ r.
-        ⌜ result r outcome.new
+    ensures { answer.result result outcome.new
         ≡ trips (alloc_numbers c lm start end trim total) (wishes intensity dual previous bandwidth) offsets.now caps.now
-        bytes.now symbols.now tables.now outcome.old ⌝ }
+        bytes.now symbols.now tables.now outcome.old }
 {
     if outcome.len() == 4 {
         let q = AllocNumbers {

@@ -1,0 +1,64 @@
+// The bit allocation: the calls of rate.
+ghost use Rattle.std.specs.Prelude.{◌≡◌};
+ghost use Rattle.rate.specs.Question.{lists, alloc_numbers, wishes};
+ghost use Rattle.gurthapen_answer.specs.Result as answer;
+ghost use Rattle.gurthapen.specs.Allocation.{reads, writes};
+
+// Reads an allocation: the bands go into three lists, coded bands, balance, intensity and dual stereo into shown.
+#[unsafe(no_mangle)]
+pub extern "C" fn gurthapen_compute_allocation_read(
+    state: &mut [i64],
+    s: &[u8],
+    c: i32,
+    lm: i32,
+    start: i32,
+    end: i32,
+    trim: i32,
+    total: i32,
+    offsets: &[i32],
+    caps: &[i32],
+    pulses: &mut [i32],
+    fine: &mut [i32],
+    priorities: &mut [i32],
+    shown: &mut [i32],
+) -> u32
+    ensures { answer.result result ((state.new, shown.new), lists pulses.new fine.new priorities.new)
+        ≡ reads (alloc_numbers c lm start end trim total) offsets.now caps.now s.now state.old shown.old
+        (lists pulses.old fine.old priorities.old) }
+{
+    gurthapen::allocation::gurthapen_compute_allocation_read(
+        state, s, c, lm, start, end, trim, total, offsets, caps, pulses, fine, priorities, shown,
+    )
+}
+
+// Writes an allocation.
+#[unsafe(no_mangle)]
+pub extern "C" fn gurthapen_compute_allocation_write(
+    state: &mut [i64],
+    buf: &mut [u8],
+    c: i32,
+    lm: i32,
+    start: i32,
+    end: i32,
+    trim: i32,
+    total: i32,
+    intensity: i32,
+    dual: i32,
+    previous: i32,
+    bandwidth: i32,
+    offsets: &[i32],
+    caps: &[i32],
+    pulses: &mut [i32],
+    fine: &mut [i32],
+    priorities: &mut [i32],
+    shown: &mut [i32],
+) -> u32
+    ensures { answer.result result ((state.new, shown.new), (lists pulses.new fine.new priorities.new, buf.new))
+        ≡ writes (alloc_numbers c lm start end trim total) (wishes intensity dual previous bandwidth) offsets.now caps.now
+        state.old shown.old (lists pulses.old fine.old priorities.old) buf.old }
+{
+    gurthapen::allocation::gurthapen_compute_allocation_write(
+        state, buf, c, lm, start, end, trim, total, intensity, dual, previous, bandwidth, offsets,
+        caps, pulses, fine, priorities, shown,
+    )
+}
