@@ -21,7 +21,7 @@ part_at c =
     let a = l.args in
     let v = l.loop-j.invariant in
     coded-part a.f a.caps.now a.bits.now a.coded a.left a.intensity a.dual l.requires.split_in l.loop-j.j v.0 (omega arith)
-    l.share_of-g.ensures v.2 c.Edge-of.ensures.0 v.3 c.part_of-p.ensures.0
+    l.share_of-g.ensures v.2 c.edge_of-hi.ensures.0 v.3 c.part_of-p.ensures.0
 
 pub loop-j-init : goal.loop-j-init
 loop-j-init c =
@@ -41,7 +41,7 @@ part_of-p-requires c =
     let a = l.args in
     let o = l.requires.split_in in
     let v = l.loop-j.invariant in
-    let h = c.Edge-of.ensures.0 in
+    let h = c.edge_of-hi.ensures.0 in
     let k : l.loop-j.j < a.coded = omega arith in (
       o.frame,
       omega (arith, o.frame),
@@ -76,7 +76,7 @@ loop-j-preserved c =
     let s = c.store.ensures in (
       omega (arith, v.0),
       omega (arith, u),
-      u.Edge-of.ensures.0,
+      u.edge_of-hi.ensures.0,
       t.next,
       s.0 ∙ fill-up _ a.f.start l.loop-j.j a.pulses.now v.0 v.4 (ap (λ (b : Band). pos b.pulses) t.part-is),
       s.1 ∙ fill-up _ a.f.start l.loop-j.j a.fine.now v.0 v.5 (ap (λ (b : Band). pos b.fine) t.part-is),
