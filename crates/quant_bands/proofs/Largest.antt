@@ -107,6 +107,10 @@ lift L p q P Q h k =
 -- the largest and a quarter at most
 sum-most : (x y : Float) → Within x largest 1 → Within y 1 4 → Within (add binary32 x y) largest 1
 unfolding add
+sum-most nan y h k = elim h [ ]
+sum-most (inf _) y h k = elim h [ ]
+sum-most (fin s m e) nan h k = elim k [ ]
+sum-most (fin s m e) (inf _) h k = elim k [ ]
 sum-most (fin s m e) (fin u n d) h k =
     sum_top s u (m * up e * down d) (n * up d * down e) (down e * down d) (mul-pos (down_pos e) (down_pos d))
     (lift largest (m * up e) (n * up d) (down e) (down d) h k)

@@ -1,0 +1,9 @@
+-- `quant_bands::last_bits::offset`: the definition's operations in its order. Assumes nothing.
+use lib.Ieee.{of_bits}
+use Rattle.quant_bands.specs.Finalise.{offset_of}
+use Rattle.quant_bands.proofs.Offsets.{shifted}
+use Rattle.quant_bands.proofs.last_bits.offset.Goals as goal
+
+pub returns : goal.returns
+unfolding of_bits offset_of
+returns c = let s = c in rw (shifted s.args.fine s.requires.1)

@@ -1,0 +1,9 @@
+-- `quant_bands::work::coarse`: the bands, with the model taken once. Assumes nothing.
+use Rattle.quant_bands.proofs.Accepts.{coarse-is}
+use Rattle.quant_bands.proofs.work.coarse.Goals as goal
+
+pub returns : goal.returns
+returns c =
+    let r = c in
+    let a = r.args in
+    coarse-is a.c a.lm a.intra a.start a.end a.s.now a.d a.energies.now r.coarse_bands-g.ensures
