@@ -5,7 +5,7 @@
 --lines NAME: of NAME and of each of those what its line says, `NAME: ALL THAT IT NAMES`, in the order of crates.txt.
 Exit 0; 1: there is no such crate; 2: it was called wrongly.
 """
-import glob, os, sys
+import glob, os, re, sys
 
 ROOT = os.path.dirname(os.path.dirname(os.path.abspath(__file__)))
 
@@ -20,6 +20,12 @@ def named(root=ROOT):
     """The crates of crates.txt, in its order, each with all that its line names, libraries of the kit too."""
     with open(os.path.join(root, "crates.txt"), encoding="utf-8") as file:
         return parse(file.read())
+
+
+def static_libraries(root=ROOT):
+    """The crates of crates.txt that are archives for other languages."""
+    with open(os.path.join(root, "crates.txt"), encoding="utf-8") as file:
+        return re.findall(r"^\s*(\w+) (?:[\w=]+ )*staticlib\b[^:#]*:", file.read(), re.M)
 
 
 def grouped(text):
