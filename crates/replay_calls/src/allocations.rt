@@ -3,30 +3,31 @@ use rate::{AllocNumbers, AllocRead, AllocWrote, Wishes};
 use replay_io::list::{at, bytes_of, length_at, part};
 use replay_io::reply;
 use replay_io::say::{hex, list, numbers, text};
+use std::io::Stdout;
 
 // What was read beside the lists.
-fn say_read(answer: AllocRead) {
+fn say_read(stdout: Stdout, answer: AllocRead) {
     match answer {
         AllocRead::Done(y) => {
             let next = y.next;
-            text(b"R");
-            reply::reader(next);
-            list(b" |", &[y.coded, y.balance, y.intensity, y.dual]);
+            text(stdout, b"R");
+            reply::reader(stdout, next);
+            list(stdout, b" |", &[y.coded, y.balance, y.intensity, y.dual]);
         }
-        AllocRead::Refused(no) => numbers(b"X", &[no]),
+        AllocRead::Refused(no) => numbers(stdout, b"X", &[no]),
     }
 }
 
 // What was written beside lists and bytes.
-fn say_written(answer: AllocWrote) {
+fn say_written(stdout: Stdout, answer: AllocWrote) {
     match answer {
         AllocWrote::Done(y) => {
             let next = y.next;
-            text(b"W");
-            reply::writer(next);
-            list(b" |", &[y.coded, y.balance, y.intensity, y.dual]);
+            text(stdout, b"W");
+            reply::writer(stdout, next);
+            list(stdout, b" |", &[y.coded, y.balance, y.intensity, y.dual]);
         }
-        AllocWrote::Refused(no) => numbers(b"X", &[no]),
+        AllocWrote::Refused(no) => numbers(stdout, b"X", &[no]),
     }
 }
 
@@ -54,6 +55,7 @@ fn wished(l: &[i32]) -> Wishes {
 
 // R: an allocation is read.
 fn read(
+    stdout: Stdout,
     l: &[i32],
     offsets: &[i32],
     caps: &[i32],
@@ -72,11 +74,12 @@ fn read(
         fine,
         priorities,
     );
-    say_read(answer);
+    say_read(stdout, answer);
 }
 
 // W: an allocation is written.
 fn write(
+    stdout: Stdout,
     l: &[i32],
     offsets: &[i32],
     caps: &[i32],
@@ -96,11 +99,12 @@ fn write(
         fine,
         priorities,
     );
-    say_written(answer);
+    say_written(stdout, answer);
 }
 
 // The call that a request's letter names.
 fn call(
+    stdout: Stdout,
     letter: u8,
     l: &[i32],
     s: &mut [u8],
@@ -112,23 +116,24 @@ fn call(
     let offsets = part(l, 28, m);
     let caps = part(l, 28 + m, length_at(l, 23, 22));
     if letter == b'R' {
-        return read(l, offsets, caps, s, pulses, fine, priorities);
+        return read(stdout, l, offsets, caps, s, pulses, fine, priorities);
     }
-    write(l, offsets, caps, s, pulses, fine, priorities)
+    write(stdout, l, offsets, caps, s, pulses, fine, priorities)
 }
 
 // The lists and the bytes that were lent, and the end of the line.
-fn say_lists(s: &[u8], pulses: &[i32], fine: &[i32], priorities: &[i32]) {
-    list(b" |", pulses);
-    list(b" |", fine);
-    list(b" |", priorities);
-    text(b" | ");
-    hex(s);
-    text(b"\n");
+fn say_lists(stdout: Stdout, s: &[u8], pulses: &[i32], fine: &[i32], priorities: &[i32]) {
+    list(stdout, b" |", pulses);
+    list(stdout, b" |", fine);
+    list(stdout, b" |", priorities);
+    text(stdout, b" | ");
+    hex(stdout, s);
+    text(stdout, b"\n");
 }
 
 // The call and its line, over lists for the answer.
 fn over(
+    stdout: Stdout,
     letter: u8,
     l: &[i32],
     s: &mut [u8],
@@ -136,12 +141,12 @@ fn over(
     fine: &mut [i32],
     priorities: &mut [i32],
 ) {
-    call(letter, l, s, pulses, fine, priorities);
-    say_lists(s, pulses, fine, priorities);
+    call(stdout, letter, l, s, pulses, fine, priorities);
+    say_lists(stdout, s, pulses, fine, priorities);
 }
 
 // The same, over lists as long as the request says. The bytes go into s.
-fn lend(letter: u8, l: &[i32], s: &mut [u8]) {
+fn lend(stdout: Stdout, letter: u8, l: &[i32], s: &mut [u8]) {
     let from = 28 + length_at(l, 22, 22) + length_at(l, 23, 22);
     bytes_of(part(l, from, s.len()), s);
     let p = length_at(l, 24, 22);
@@ -151,6 +156,7 @@ fn lend(letter: u8, l: &[i32], s: &mut [u8]) {
     let mut fine = [-2i32; 22];
     let mut priorities = [-3i32; 22];
     over(
+        stdout,
         letter,
         l,
         s,
@@ -161,8 +167,8 @@ fn lend(letter: u8, l: &[i32], s: &mut [u8]) {
 }
 
 // A request, over as many bytes as it says.
-pub fn ask(letter: u8, l: &[i32]) {
+pub fn ask(stdout: Stdout, letter: u8, l: &[i32]) {
     let k = length_at(l, 27, 1276);
     let mut s = [0u8; 1276];
-    lend(letter, l, &mut s[..k]);
+    lend(stdout, letter, l, &mut s[..k]);
 }

@@ -5,6 +5,7 @@ use replay_io::list::{at, bytes_of, length_at, part};
 use replay_io::reply;
 use replay_io::say::{floats, numbers, text};
 use replay_io::state::reader_of;
+use std::io::Stdout;
 
 // E: coarse energies are decoded.
 fn coarse(l: &[i32], s: &[u8], energies: &mut [f32]) -> EnergyRead {
@@ -53,13 +54,13 @@ fn call(letter: u8, l: &[i32], s: &[u8], energies: &mut [f32]) -> EnergyRead {
 }
 
 // What a call says beside the energies.
-fn say_answer(letter: u8, answer: EnergyRead) {
+fn say_answer(stdout: Stdout, letter: u8, answer: EnergyRead) {
     match answer {
         EnergyRead::Done(next) => {
-            text(&[letter]);
-            reply::reader(next);
+            text(stdout, &[letter]);
+            reply::reader(stdout, next);
         }
-        EnergyRead::Refused(no) => numbers(b"X", &[no]),
+        EnergyRead::Refused(no) => numbers(stdout, b"X", &[no]),
     }
 }
 
@@ -73,20 +74,20 @@ fn fill(l: &[i32], x: &mut [f32], s: &mut [u8]) {
 }
 
 // The call and its line: what it answers, then the energies that were lent.
-fn over(letter: u8, l: &[i32], x: &mut [f32], s: &mut [u8]) {
+fn over(stdout: Stdout, letter: u8, l: &[i32], x: &mut [f32], s: &mut [u8]) {
     fill(l, x, s);
     let answer = call(letter, l, s, x);
-    say_answer(letter, answer);
-    text(b" | ");
-    floats(x);
-    text(b"\n");
+    say_answer(stdout, letter, answer);
+    text(stdout, b" | ");
+    floats(stdout, x);
+    text(stdout, b"\n");
 }
 
 // A request, over as many energies and bytes as it says.
-pub fn ask(letter: u8, l: &[i32]) {
+pub fn ask(stdout: Stdout, letter: u8, l: &[i32]) {
     let m = length_at(l, 17, 43);
     let k = length_at(l, 20, 1276);
     let mut x = [0.0f32; 43];
     let mut s = [0u8; 1276];
-    over(letter, l, &mut x[..m], &mut s[..k]);
+    over(stdout, letter, l, &mut x[..m], &mut s[..k]);
 }

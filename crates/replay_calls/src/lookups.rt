@@ -3,6 +3,7 @@ use rate_cache::LookupAnswer;
 use replay_io::list::at;
 use replay_io::reply;
 use replay_io::say::{numbers, text};
+use std::io::Stdout;
 
 // G: get_pulses. B: bits2pulses. b: pulses2bits.
 fn found(letter: u8, l: &[i32]) -> LookupAnswer {
@@ -14,12 +15,12 @@ fn found(letter: u8, l: &[i32]) -> LookupAnswer {
 }
 
 // A lookup and its line.
-pub fn ask(letter: u8, l: &[i32]) {
+pub fn ask(stdout: Stdout, letter: u8, l: &[i32]) {
     match found(letter, l) {
         LookupAnswer::Done(v) => {
-            numbers(&[letter], &[v]);
-            text(b"\n");
+            numbers(stdout, &[letter], &[v]);
+            text(stdout, b"\n");
         }
-        LookupAnswer::Refused(no) => reply::refused(no),
+        LookupAnswer::Refused(no) => reply::refused(stdout, no),
     }
 }

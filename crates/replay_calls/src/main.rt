@@ -8,45 +8,46 @@ mod lookups;
 mod shapes;
 
 use replay_io::{input, list, reply};
+use std::io::{Stdin, Stdout};
 
 // A request by its letter and its numbers.
-fn ask(letter: u8, l: &[i32]) {
+fn ask(stdout: Stdout, letter: u8, l: &[i32]) {
     match letter {
-        b'R' | b'W' => allocations::ask(letter, l),
-        b'E' | b'F' => energies::ask(letter, l),
-        b'U' => shapes::ask(l),
-        b'G' | b'B' | b'b' => lookups::ask(letter, l),
-        _ => reply::malformed(),
+        b'R' | b'W' => allocations::ask(stdout, letter, l),
+        b'E' | b'F' => energies::ask(stdout, letter, l),
+        b'U' => shapes::ask(stdout, l),
+        b'G' | b'B' | b'b' => lookups::ask(stdout, letter, l),
+        _ => reply::malformed(stdout),
     }
 }
 
 // Answers the line in the first n bytes of its buffer.
-fn step(line: &[u8], n: usize) {
+fn step(stdout: Stdout, line: &[u8], n: usize) {
     let mut l = [0i32; 1384];
     let request = input::first(line, n);
     let count = list::read(request, 1, &mut l);
     if 1384 < count {
-        return reply::malformed();
+        return reply::malformed(stdout);
     }
-    ask(input::byte(request, 0), &l)
+    ask(stdout, input::byte(request, 0), &l)
 }
 
 // Answers each line of the input.
-fn run(block: &mut [u8], line: &mut [u8]) {
+fn run(stdin: Stdin, stdout: Stdout, block: &mut [u8], line: &mut [u8]) {
     let mut t = input::begin();
     let mut lines: u32 = 4294967295;
     while 0 < lines {
-        t = input::next(block, line, t);
+        t = input::next(stdin, block, line, t);
         if !t.whole {
             return;
         }
-        step(line, t.length);
+        step(stdout, line, t.length);
         lines -= 1;
     }
 }
 
-fn main() {
-    let mut block = io::large_buffer();
+fn main(rt: HostRuntime) {
+    let mut block = [0u8; 65536];
     let mut line = [0u8; 8192];
-    run(&mut block, &mut line);
+    run(rt.stdin(), rt.stdout(), &mut block, &mut line);
 }

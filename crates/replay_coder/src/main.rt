@@ -11,6 +11,7 @@ use entdec::Reader;
 use entenc::Writer;
 use replay_io::list::word;
 use replay_io::{input, list, reply};
+use std::io::{Stdin, Stdout};
 
 // Who works on the bytes.
 #[derive(Clone, Copy)]
@@ -83,6 +84,7 @@ impl State {
 
 // A write or the close.
 fn write_on(
+    stdout: Stdout,
     letter: u8,
     l: &[i32],
     s: &mut [u8],
@@ -92,14 +94,15 @@ fn write_on(
     w: Writer,
 ) -> Coder {
     match letter {
-        b'L' => values::put(list::at(l, 0), s, state.fs, state.decay, w),
-        b'W' => vectors::put(l, s, places, w),
-        _ => symbols::write(letter, l, s, t, state.ftb, w),
+        b'L' => values::put(stdout, list::at(l, 0), s, state.fs, state.decay, w),
+        b'W' => vectors::put(stdout, l, s, places, w),
+        _ => symbols::write(stdout, letter, l, s, t, state.ftb, w),
     }
 }
 
 // A read.
 fn read_on(
+    stdout: Stdout,
     letter: u8,
     l: &[i32],
     s: &[u8],
@@ -109,37 +112,54 @@ fn read_on(
     r: Reader,
 ) -> Coder {
     match letter {
-        b'l' => values::get(s, state.fs, state.decay, r),
-        b'w' => vectors::get(l, s, places, r),
-        _ => symbols::read(letter, l, s, t, state.ftb, r),
+        b'l' => values::get(stdout, s, state.fs, state.decay, r),
+        b'w' => vectors::get(stdout, l, s, places, r),
+        _ => symbols::read(stdout, letter, l, s, t, state.ftb, r),
     }
 }
 
 // A call of the writer or of the reader, whoever works.
-fn call(letter: u8, l: &[i32], s: &mut [u8], t: &[u8], places: &mut [i32], state: State) -> Coder {
+fn call(
+    stdout: Stdout,
+    letter: u8,
+    l: &[i32],
+    s: &mut [u8],
+    t: &[u8],
+    places: &mut [i32],
+    state: State,
+) -> Coder {
     let coder = state.coder;
     match coder {
-        Coder::Writing(w) => write_on(letter, l, s, t, places, state, w),
-        Coder::Reading(r) => read_on(letter, l, s, t, places, state, r),
+        Coder::Writing(w) => write_on(stdout, letter, l, s, t, places, state, w),
+        Coder::Reading(r) => read_on(stdout, letter, l, s, t, places, state, r),
         Coder::Idle => {
-            reply::malformed();
+            reply::malformed(stdout);
             Coder::Idle
         }
     }
 }
 
 // A request over the bytes that are lent and the table's symbols.
-fn act(letter: u8, l: &[i32], s: &mut [u8], t: &[u8], places: &mut [i32], state: State) -> Coder {
+fn act(
+    stdout: Stdout,
+    letter: u8,
+    l: &[i32],
+    s: &mut [u8],
+    t: &[u8],
+    places: &mut [i32],
+    state: State,
+) -> Coder {
     let coder = state.coder;
     match letter {
-        b'S' | b'O' | b'K' | b'k' => begin::begin(letter, l, s, coder),
-        b'D' => begin::damage(l, s, coder),
-        _ => call(letter, l, s, t, places, state),
+        b'S' | b'O' | b'K' | b'k' => begin::begin(stdout, letter, l, s, coder),
+        b'D' => begin::damage(stdout, l, s, coder),
+        _ => call(stdout, letter, l, s, t, places, state),
     }
 }
 
 // The same, over as many bytes as the requests up to it say.
 fn lend(
+    stdout: Stdout,
     letter: u8,
     l: &[i32],
     bytes: &mut [u8],
@@ -152,12 +172,13 @@ fn lend(
         return state;
     }
     let t = input::first(table, state.symbols);
-    let coder = act(letter, l, &mut bytes[..n], t, places, state);
+    let coder = act(stdout, letter, l, &mut bytes[..n], t, places, state);
     state.with_coder(coder)
 }
 
 // A request by its letter and its numbers, of which there are so many.
 fn ask(
+    stdout: Stdout,
     letter: u8,
     l: &[i32],
     count: usize,
@@ -178,13 +199,14 @@ fn ask(
         }
         _ => {
             let on = state.with_lent(letter, l, bytes.len());
-            lend(letter, l, bytes, table, places, on)
+            lend(stdout, letter, l, bytes, table, places, on)
         }
     }
 }
 
 // Answers the line in the first n bytes of its buffer.
 fn step(
+    stdout: Stdout,
     line: &[u8],
     n: usize,
     bytes: &mut [u8],
@@ -196,10 +218,11 @@ fn step(
     let request = input::first(line, n);
     let count = list::read(request, 1, &mut l);
     if 257 < count {
-        reply::malformed();
+        reply::malformed(stdout);
         return state;
     }
     ask(
+        stdout,
         input::byte(request, 0),
         &l,
         count,
@@ -211,26 +234,42 @@ fn step(
 }
 
 // Answers each line of the input.
-fn run(block: &mut [u8], line: &mut [u8], bytes: &mut [u8], table: &mut [u8], places: &mut [i32]) {
+fn run(
+    stdin: Stdin,
+    stdout: Stdout,
+    block: &mut [u8],
+    line: &mut [u8],
+    bytes: &mut [u8],
+    table: &mut [u8],
+    places: &mut [i32],
+) {
     let mut state = fresh();
     let mut t = input::begin();
     let mut lines: u32 = 4294967295;
     while 0 < lines {
-        t = input::next(block, line, t);
+        t = input::next(stdin, block, line, t);
         if !t.whole {
             return;
         }
-        state = step(line, t.length, bytes, table, places, state);
+        state = step(stdout, line, t.length, bytes, table, places, state);
         lines -= 1;
     }
 }
 
 // The buffers, and the run over them.
-fn main() {
-    let mut block = io::large_buffer();
+fn main(rt: HostRuntime) {
+    let mut block = [0u8; 65536];
     let mut line = [0u8; 1200];
     let mut bytes = [0u8; 1300];
     let mut table = [0u8; 256];
     let mut places = [0i32; 176];
-    run(&mut block, &mut line, &mut bytes, &mut table, &mut places);
+    run(
+        rt.stdin(),
+        rt.stdout(),
+        &mut block,
+        &mut line,
+        &mut bytes,
+        &mut table,
+        &mut places,
+    );
 }

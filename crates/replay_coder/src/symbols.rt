@@ -5,6 +5,7 @@ use entdec::Reader;
 use entenc::Writer;
 use replay_io::list::word;
 use replay_io::reply;
+use std::io::Stdout;
 
 // A write or the close. A letter that is none of them is refused with 0.
 fn put(letter: u8, l: &[i32], s: &mut [u8], t: &[u8], ftb: u32, w: Writer) -> entenc::WriteAnswer {
@@ -19,9 +20,17 @@ fn put(letter: u8, l: &[i32], s: &mut [u8], t: &[u8], ftb: u32, w: Writer) -> en
 }
 
 // The same, and its line.
-pub fn write(letter: u8, l: &[i32], s: &mut [u8], t: &[u8], ftb: u32, w: Writer) -> Coder {
+pub fn write(
+    stdout: Stdout,
+    letter: u8,
+    l: &[i32],
+    s: &mut [u8],
+    t: &[u8],
+    ftb: u32,
+    w: Writer,
+) -> Coder {
     let a = put(letter, l, s, t, ftb, w);
-    wrote(letter, a, s, Coder::Writing(w))
+    wrote(stdout, letter, a, s, Coder::Writing(w))
 }
 
 // A read. A letter that is none is refused with 0.
@@ -36,16 +45,24 @@ fn get(letter: u8, l: &[i32], s: &[u8], t: &[u8], ftb: u32, r: Reader) -> entdec
 }
 
 // The same, and its line.
-pub fn read(letter: u8, l: &[i32], s: &[u8], t: &[u8], ftb: u32, r: Reader) -> Coder {
+pub fn read(
+    stdout: Stdout,
+    letter: u8,
+    l: &[i32],
+    s: &[u8],
+    t: &[u8],
+    ftb: u32,
+    r: Reader,
+) -> Coder {
     let a = get(letter, l, s, t, ftb, r);
     match a {
         entdec::ReadAnswer::Done(g) => {
             let next = g.next;
-            reply::read(letter, g.value, next);
+            reply::read(stdout, letter, g.value, next);
             Coder::Reading(next)
         }
         entdec::ReadAnswer::Refused(no) => {
-            reply::refused(no);
+            reply::refused(stdout, no);
             Coder::Reading(r)
         }
     }

@@ -6,6 +6,7 @@ use entenc::{WriteAnswer, Writer};
 use replay_io::list::{at, word};
 use replay_io::reply;
 use replay_io::say::{list, numbers, text};
+use std::io::Stdout;
 
 // Every place becomes 0.
 fn clear(places: &mut [i32]) {
@@ -29,44 +30,45 @@ pub fn lay(letter: u8, l: &[i32], places: &mut [i32]) {
 }
 
 // W: the vector in the first places. Of the state total, rng and val are said.
-pub fn put(l: &[i32], s: &mut [u8], places: &[i32], w: Writer) -> Coder {
+pub fn put(stdout: Stdout, l: &[i32], s: &mut [u8], places: &[i32], w: Writer) -> Coder {
     let answer = cwrs::encode_pulses(w, s, places, word(l, 0), word(l, 1));
     match answer {
         WriteAnswer::Done(next) => {
-            numbers(b"W", &[next.total, next.rng, next.val]);
-            text(b"\n");
+            numbers(stdout, b"W", &[next.total, next.rng, next.val]);
+            text(stdout, b"\n");
             Coder::Writing(next)
         }
         WriteAnswer::Refused(no) => {
-            reply::refused(no);
+            reply::refused(stdout, no);
             Coder::Writing(w)
         }
     }
 }
 
 // A place and its value, where it is not 0.
-fn say_place(at: usize, value: i32) {
+fn say_place(stdout: Stdout, at: usize, value: i32) {
     if value == 0 {
         return;
     }
     if at < 65536 {
-        numbers(b"", &[at as u32]);
-        list(b"", &[value]);
+        numbers(stdout, b"", &[at as u32]);
+        list(stdout, b"", &[value]);
     }
 }
 
 // All places that are not 0.
-fn say_places(places: &[i32]) {
+fn say_places(stdout: Stdout, places: &[i32]) {
     let mut i = 0;
     while i < places.len() {
-        say_place(i, places[i]);
+        say_place(stdout, i, places[i]);
         i += 1;
     }
 }
 
 // The line of a vector that was read: its energy, error, total, rng and val of the state, and the places.
-fn say_found(energy: u32, next: Reader, places: &[i32]) {
+fn say_found(stdout: Stdout, energy: u32, next: Reader, places: &[i32]) {
     numbers(
+        stdout,
         b"w",
         &[
             energy,
@@ -76,21 +78,21 @@ fn say_found(energy: u32, next: Reader, places: &[i32]) {
             next.val,
         ],
     );
-    say_places(places);
-    text(b"\n");
+    say_places(stdout, places);
+    text(stdout, b"\n");
 }
 
 // w: a vector, into the first places.
-pub fn get(l: &[i32], s: &[u8], places: &mut [i32], r: Reader) -> Coder {
+pub fn get(stdout: Stdout, l: &[i32], s: &[u8], places: &mut [i32], r: Reader) -> Coder {
     let answer = cwrs::decode_pulses(r, s, places, word(l, 0), word(l, 1));
     match answer {
         Decoded::Done(f) => {
             let next = f.next;
-            say_found(f.energy, next, places);
+            say_found(stdout, f.energy, next, places);
             Coder::Reading(next)
         }
         Decoded::Refused(no) => {
-            reply::refused(no);
+            reply::refused(stdout, no);
             Coder::Reading(r)
         }
     }

@@ -5,38 +5,39 @@ use reader_held::{AllocStep, Allocated};
 use replay_io::list::{at, part};
 use replay_io::reply;
 use replay_io::say::{list, numbers, text};
+use std::io::Stdout;
 
 // What the call by value answered.
-fn by_value(a: AllocRead) {
+fn by_value(stdout: Stdout, a: AllocRead) {
     match a {
         AllocRead::Done(y) => {
             let next = y.next;
-            list(b"A", &[y.coded, y.balance, y.intensity, y.dual]);
-            reply::reader(next);
+            list(stdout, b"A", &[y.coded, y.balance, y.intensity, y.dual]);
+            reply::reader(stdout, next);
         }
-        AllocRead::Refused(no) => numbers(b"X", &[no]),
+        AllocRead::Refused(no) => numbers(stdout, b"X", &[no]),
     }
 }
 
 // What the held reader answered.
-fn by_held(y: AllocStep) {
+fn by_held(stdout: Stdout, y: AllocStep) {
     let answer = y.answer;
     let next = y.next;
     match answer {
         Allocated::Done(a) => {
-            list(b"A", &[a.coded, a.balance, a.intensity, a.dual]);
-            reply::reader(next);
+            list(stdout, b"A", &[a.coded, a.balance, a.intensity, a.dual]);
+            reply::reader(stdout, next);
         }
-        Allocated::Refused(no) => numbers(b"X", &[no]),
+        Allocated::Refused(no) => numbers(stdout, b"X", &[no]),
     }
 }
 
 // The lists, and the end of the line.
-fn lists(pulses: &[i32], fine: &[i32], priorities: &[i32]) {
-    list(b" |", pulses);
-    list(b" |", fine);
-    list(b" |", priorities);
-    text(b"\n");
+fn lists(stdout: Stdout, pulses: &[i32], fine: &[i32], priorities: &[i32]) {
+    list(stdout, b" |", pulses);
+    list(stdout, b" |", fine);
+    list(stdout, b" |", priorities);
+    text(stdout, b"\n");
 }
 
 // The allocation's numbers.
@@ -52,7 +53,7 @@ fn asked(l: &[i32]) -> AllocNumbers {
 }
 
 // By value.
-fn read(l: &[i32], s: &[u8]) {
+fn read(stdout: Stdout, l: &[i32], s: &[u8]) {
     let mut pulses = [0i32; 21];
     let mut fine = [0i32; 21];
     let mut priorities = [0i32; 21];
@@ -66,12 +67,12 @@ fn read(l: &[i32], s: &[u8]) {
         &mut fine,
         &mut priorities,
     );
-    by_value(a);
-    lists(&pulses, &fine, &priorities);
+    by_value(stdout, a);
+    lists(stdout, &pulses, &fine, &priorities);
 }
 
 // By a held reader.
-fn read_held(l: &[i32], s: &[u8]) {
+fn read_held(stdout: Stdout, l: &[i32], s: &[u8]) {
     let mut pulses = [0i32; 21];
     let mut fine = [0i32; 21];
     let mut priorities = [0i32; 21];
@@ -85,12 +86,12 @@ fn read_held(l: &[i32], s: &[u8]) {
         &mut fine,
         &mut priorities,
     );
-    by_held(y);
-    lists(&pulses, &fine, &priorities);
+    by_held(stdout, y);
+    lists(stdout, &pulses, &fine, &priorities);
 }
 
 // A: an allocation, whose offsets and caps are listed.
-pub fn ask(l: &[i32], s: &[u8]) {
-    read(l, s);
-    read_held(l, s);
+pub fn ask(stdout: Stdout, l: &[i32], s: &[u8]) {
+    read(stdout, l, s);
+    read_held(stdout, l, s);
 }

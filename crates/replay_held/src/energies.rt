@@ -7,40 +7,41 @@ use replay_io::floats::floats_of;
 use replay_io::list::{at, part};
 use replay_io::reply;
 use replay_io::say::{floats, numbers, text};
+use std::io::Stdout;
 
 // A letter, a number, which is 0 or a refusal's, and the reader after it.
-pub fn say_energies(letter: u8, code: u32, next: Reader) {
-    numbers(&[letter], &[code]);
-    reply::reader(next);
+pub fn say_energies(stdout: Stdout, letter: u8, code: u32, next: Reader) {
+    numbers(stdout, &[letter], &[code]);
+    reply::reader(stdout, next);
 }
 
 // Energies, and the end of the line.
-pub fn ended(x: &[f32]) {
-    text(b" ");
-    floats(x);
-    text(b"\n");
+pub fn ended(stdout: Stdout, x: &[f32]) {
+    text(stdout, b" ");
+    floats(stdout, x);
+    text(stdout, b"\n");
 }
 
 // What the call by value answered to d.
-fn by_value(d: Reader, a: EnergyRead) {
+fn by_value(stdout: Stdout, d: Reader, a: EnergyRead) {
     match a {
-        EnergyRead::Done(next) => say_energies(b'E', 0, next),
-        EnergyRead::Refused(no) => say_energies(b'E', no, d),
+        EnergyRead::Done(next) => say_energies(stdout, b'E', 0, next),
+        EnergyRead::Refused(no) => say_energies(stdout, b'E', no, d),
     }
 }
 
 // What the held reader answered.
-fn by_held(y: EnergiesStep) {
+fn by_held(stdout: Stdout, y: EnergiesStep) {
     let answer = y.answer;
     let next = y.next;
     match answer {
-        Energies::Done => say_energies(b'E', 0, next),
-        Energies::Refused(no) => say_energies(b'E', no, next),
+        Energies::Done => say_energies(stdout, b'E', 0, next),
+        Energies::Refused(no) => say_energies(stdout, b'E', no, next),
     }
 }
 
 // By value.
-fn read(l: &[i32], s: &[u8]) {
+fn read(stdout: Stdout, l: &[i32], s: &[u8]) {
     let d = reader(l);
     let mut x = [0.0f32; 42];
     floats_of(part(l, 20, 42), &mut x);
@@ -54,12 +55,12 @@ fn read(l: &[i32], s: &[u8]) {
         at(l, 3),
         at(l, 4),
     );
-    by_value(d, a);
-    ended(&x);
+    by_value(stdout, d, a);
+    ended(stdout, &x);
 }
 
 // By a held reader.
-fn read_held(l: &[i32], s: &[u8]) {
+fn read_held(stdout: Stdout, l: &[i32], s: &[u8]) {
     let mut x = [0.0f32; 42];
     floats_of(part(l, 20, 42), &mut x);
     let y = reader_held::plain::coarse(
@@ -72,12 +73,12 @@ fn read_held(l: &[i32], s: &[u8]) {
         at(l, 3),
         at(l, 4),
     );
-    by_held(y);
-    ended(&x);
+    by_held(stdout, y);
+    ended(stdout, &x);
 }
 
 // E: coarse energies, which are listed as they were.
-pub fn ask(l: &[i32], s: &[u8]) {
-    read(l, s);
-    read_held(l, s);
+pub fn ask(stdout: Stdout, l: &[i32], s: &[u8]) {
+    read(stdout, l, s);
+    read_held(stdout, l, s);
 }

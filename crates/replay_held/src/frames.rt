@@ -5,6 +5,7 @@ use entdec::Reader;
 use replay_io::floats::floats_of;
 use replay_io::list::{at, part, word};
 use replay_io::say::numbers;
+use std::io::Stdout;
 use stream::{Framed, Record};
 use stream_lent::{Applied, AppliedStep};
 
@@ -19,34 +20,34 @@ fn record(l: &[i32]) -> Record {
 }
 
 // A record's next number and its energies, and the end of the line.
-fn recorded(r: Record) {
+fn recorded(stdout: Stdout, r: Record) {
     let x = r.energies;
-    numbers(b"", &[(r.next % 4294967296) as u32]);
-    ended(&x);
+    numbers(stdout, b"", &[(r.next % 4294967296) as u32]);
+    ended(stdout, &x);
 }
 
 // What the frame by value gave.
-fn framed(y: Framed) {
+fn framed(stdout: Stdout, y: Framed) {
     let next = y.next;
     let rec = y.rec;
-    say_energies(b'F', y.code, next);
-    recorded(rec);
+    say_energies(stdout, b'F', y.code, next);
+    recorded(stdout, rec);
 }
 
 // What the frame on a lent record answered to d.
-fn answered(d: Reader, a: Applied) {
+fn answered(stdout: Stdout, d: Reader, a: Applied) {
     match a {
-        Applied::Done(next) => say_energies(b'F', 0, next),
-        Applied::Refused(no) => say_energies(b'F', no, d),
+        Applied::Done(next) => say_energies(stdout, b'F', 0, next),
+        Applied::Refused(no) => say_energies(stdout, b'F', no, d),
     }
 }
 
 // That, and the record then.
-fn applied(d: Reader, y: AppliedStep) {
+fn applied(stdout: Stdout, d: Reader, y: AppliedStep) {
     let answer = y.answer;
     let rec = y.rec;
-    answered(d, answer);
-    recorded(rec);
+    answered(stdout, d, answer);
+    recorded(stdout, rec);
 }
 
 // By value.
@@ -79,7 +80,7 @@ fn apply_lent(l: &[i32], s: &[u8]) -> AppliedStep {
 }
 
 // F: a frame on a record.
-pub fn ask(l: &[i32], s: &[u8]) {
-    framed(apply(l, s));
-    applied(reader(l), apply_lent(l, s));
+pub fn ask(stdout: Stdout, l: &[i32], s: &[u8]) {
+    framed(stdout, apply(l, s));
+    applied(stdout, reader(l), apply_lent(l, s));
 }

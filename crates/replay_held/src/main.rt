@@ -11,6 +11,7 @@ mod values;
 
 use entdec::Reader;
 use replay_io::{input, list, reply};
+use std::io::{Stdin, Stdout};
 
 // The reader of a request.
 pub fn reader(l: &[i32]) -> Reader {
@@ -18,58 +19,58 @@ pub fn reader(l: &[i32]) -> Reader {
 }
 
 // The call that a request's letter names, by value and then held.
-fn call(letter: u8, l: &[i32], s: &[u8]) {
+fn call(stdout: Stdout, letter: u8, l: &[i32], s: &[u8]) {
     match letter {
-        b'A' => allocations::ask(l, s),
-        b'E' => energies::ask(l, s),
-        b'F' => frames::ask(l, s),
-        b'O' => symbols::open(s),
-        b'i' => symbols::table(l, s),
-        b'l' => values::ask(l, s),
-        _ => symbols::ask(letter, l, s),
+        b'A' => allocations::ask(stdout, l, s),
+        b'E' => energies::ask(stdout, l, s),
+        b'F' => frames::ask(stdout, l, s),
+        b'O' => symbols::open(stdout, s),
+        b'i' => symbols::table(stdout, l, s),
+        b'l' => values::ask(stdout, l, s),
+        _ => symbols::ask(stdout, letter, l, s),
     }
 }
 
 // The same, its packet in s.
-fn over(letter: u8, l: &[i32], s: &mut [u8]) {
+fn over(stdout: Stdout, letter: u8, l: &[i32], s: &mut [u8]) {
     list::bytes_of(list::part(l, 62, s.len()), s);
-    call(letter, l, s);
+    call(stdout, letter, l, s);
 }
 
 // A request by its letter and its numbers.
-fn ask(letter: u8, l: &[i32]) {
+fn ask(stdout: Stdout, letter: u8, l: &[i32]) {
     let k = list::length_at(l, 19, 1276);
     let mut s = [0u8; 1276];
-    over(letter, l, &mut s[..k]);
+    over(stdout, letter, l, &mut s[..k]);
 }
 
 // Answers the line in the first n bytes of its buffer.
-fn step(line: &[u8], n: usize) {
+fn step(stdout: Stdout, line: &[u8], n: usize) {
     let mut l = [0i32; 1338];
     let request = input::first(line, n);
     let count = list::read(request, 1, &mut l);
     if 1338 < count {
-        return reply::malformed();
+        return reply::malformed(stdout);
     }
-    ask(input::byte(request, 0), &l)
+    ask(stdout, input::byte(request, 0), &l)
 }
 
 // Answers each line of the input.
-fn run(block: &mut [u8], line: &mut [u8]) {
+fn run(stdin: Stdin, stdout: Stdout, block: &mut [u8], line: &mut [u8]) {
     let mut t = input::begin();
     let mut lines: u32 = 4294967295;
     while 0 < lines {
-        t = input::next(block, line, t);
+        t = input::next(stdin, block, line, t);
         if !t.whole {
             return;
         }
-        step(line, t.length);
+        step(stdout, line, t.length);
         lines -= 1;
     }
 }
 
-fn main() {
-    let mut block = io::large_buffer();
+fn main(rt: HostRuntime) {
+    let mut block = [0u8; 65536];
     let mut line = [0u8; 16384];
-    run(&mut block, &mut line);
+    run(rt.stdin(), rt.stdout(), &mut block, &mut line);
 }

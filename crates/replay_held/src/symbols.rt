@@ -4,25 +4,26 @@ use entdec::{ReadAnswer, Reader, Started};
 use reader_held::{Begun, Step, Symbol, plain};
 use replay_io::list::word;
 use replay_io::{list, reply};
+use std::io::Stdout;
 
 // What a call by value answered.
-fn by_value(letter: u8, a: ReadAnswer) {
+fn by_value(stdout: Stdout, letter: u8, a: ReadAnswer) {
     match a {
         ReadAnswer::Done(y) => {
             let next = y.next;
-            reply::read(letter, y.value, next);
+            reply::read(stdout, letter, y.value, next);
         }
-        ReadAnswer::Refused(no) => reply::refused(no),
+        ReadAnswer::Refused(no) => reply::refused(stdout, no),
     }
 }
 
 // What the held reader answered.
-fn by_held(letter: u8, y: Step) {
+fn by_held(stdout: Stdout, letter: u8, y: Step) {
     let answer = y.answer;
     let next = y.next;
     match answer {
-        Symbol::Done(v) => reply::read(letter, v, next),
-        Symbol::Refused(no) => reply::refused(no),
+        Symbol::Done(v) => reply::read(stdout, letter, v, next),
+        Symbol::Refused(no) => reply::refused(stdout, no),
     }
 }
 
@@ -45,48 +46,48 @@ fn asked_held(letter: u8, d: Reader, s: &[u8], p: u32) -> Step {
 }
 
 // b, u, r: a bit, a number below ft, raw bits.
-pub fn ask(letter: u8, l: &[i32], s: &[u8]) {
+pub fn ask(stdout: Stdout, letter: u8, l: &[i32], s: &[u8]) {
     let d = reader(l);
     let p = word(l, 0);
-    by_value(letter, asked(letter, d, s, p));
-    by_held(letter, asked_held(letter, d, s, p));
+    by_value(stdout, letter, asked(letter, d, s, p));
+    by_held(stdout, letter, asked_held(letter, d, s, p));
 }
 
 // A symbol of a table, which goes into t.
-fn table_in(l: &[i32], t: &mut [u8], s: &[u8]) {
+fn table_in(stdout: Stdout, l: &[i32], t: &mut [u8], s: &[u8]) {
     list::bytes_of(list::part(l, 20, t.len()), t);
     let d = reader(l);
     let ftb = word(l, 0);
-    by_value(b'i', d.icdf(s, t, ftb));
-    by_held(b'i', plain::icdf(d, s, t, ftb));
+    by_value(stdout, b'i', d.icdf(s, t, ftb));
+    by_held(stdout, b'i', plain::icdf(d, s, t, ftb));
 }
 
 // i: a symbol of a table.
-pub fn table(l: &[i32], s: &[u8]) {
+pub fn table(stdout: Stdout, l: &[i32], s: &[u8]) {
     let m = list::length_at(l, 1, 42);
     let mut t = [0u8; 42];
-    table_in(l, &mut t[..m], s);
+    table_in(stdout, l, &mut t[..m], s);
 }
 
 // A new reader by value.
-fn started(a: Started) {
+fn started(stdout: Stdout, a: Started) {
     match a {
-        Started::Done(d) => reply::opened(b'O', d),
-        Started::Refused(no) => reply::refused(no),
+        Started::Done(d) => reply::opened(stdout, b'O', d),
+        Started::Refused(no) => reply::refused(stdout, no),
     }
 }
 
 // A new held reader.
-fn begun(y: Begun) {
+fn begun(stdout: Stdout, y: Begun) {
     let num = y.num;
     if y.code == 0 {
-        return reply::opened(b'O', num);
+        return reply::opened(stdout, b'O', num);
     }
-    reply::refused(y.code)
+    reply::refused(stdout, y.code)
 }
 
 // O: a new reader of the packet.
-pub fn open(s: &[u8]) {
-    started(Reader::new(s));
-    begun(plain::begin(s));
+pub fn open(stdout: Stdout, s: &[u8]) {
+    started(stdout, Reader::new(s));
+    begun(stdout, plain::begin(s));
 }

@@ -1,5 +1,6 @@
 // The lines of standard input, one by one.
 use super::{push, read_some};
+use std::io::Stdin;
 
 // Where the input stands: how long the line in its buffer is, whether its line feed came, the next place in the block that was read
 // last, and how many bytes that has.
@@ -60,14 +61,14 @@ fn take(block: &[u8], from: usize, count: usize, line: &mut [u8], n: usize) -> L
 }
 
 // The next line. Where it is not whole, the input is at its end. Nothing says that the input ends, so the blocks are counted.
-pub fn next(block: &mut [u8], line: &mut [u8], from: Line) -> Line {
+pub fn next(stdin: Stdin, block: &mut [u8], line: &mut [u8], from: Line) -> Line {
     let mut t = take(block, from.at, from.count, line, 0);
     let mut blocks: u32 = 65536;
     while 0 < blocks {
         if t.whole {
             return t;
         }
-        let count = read_some(block);
+        let count = read_some(stdin, block);
         if count == 0 {
             return t;
         }

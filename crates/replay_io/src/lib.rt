@@ -2,11 +2,11 @@
 // of a lent buffer. Every function answers every input.
 #![tactic(auto)]
 
-ghost use Rattle.std.specs.Prelude.{◌≡◌, [], ◌∷◌, length, take};
-ghost use Rattle.io.specs.Counts.{IsPrefixLen};
+ghost use Rattle.std.specs.Prelude.{◌≡◌, ◌≤◌, [], ◌∷◌, length, take};
 ghost use Rattle.text.specs.Written.{decimal_of};
 ghost use Rattle.replay_io.specs.Text.{appended, hex_bytes_of};
 
+use std::io::{Read, Stdin};
 use text::write::{decimal, glyph};
 
 pub mod floats;
@@ -74,10 +74,9 @@ fn push_hex(out: &mut [u8], n: usize, s: &[u8]) -> usize
     k
 }
 
-// Reads once from standard input; how many bytes came, 0 at the end.
-fn read_some(block: &mut [u8]) -> usize
-    ensures { IsPrefixLen result block.new }
+// Reads once from standard input; how many bytes came, 0 at the end and where the read fails.
+fn read_some(mut stdin: Stdin, block: &mut [u8]) -> usize
+    ensures { (result ≤ length block.new) × (result ≡ length (take result block.new)) }
 {
-    let got = libc::read(libc::STDIN_FILENO, block);
-    io::count(got, block)
+    stdin.read(block).unwrap_or(0)
 }

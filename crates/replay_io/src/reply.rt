@@ -3,6 +3,7 @@ use crate::say::{hex, numbers, text};
 use entcode::TellAnswer;
 use entdec::Reader;
 use entenc::Writer;
+use std::io::Stdout;
 
 // A mark as 0 or 1.
 pub fn mark(b: bool) -> u32 {
@@ -10,17 +11,18 @@ pub fn mark(b: bool) -> u32 {
 }
 
 // What tell or tell_frac says; X before the number of a refusal.
-fn say_tell(t: TellAnswer) {
+fn say_tell(stdout: Stdout, t: TellAnswer) {
     match t {
-        TellAnswer::Done(v) => numbers(b"", &[v]),
-        TellAnswer::Refused(no) => numbers(b" X", &[no]),
+        TellAnswer::Done(v) => numbers(stdout, b"", &[v]),
+        TellAnswer::Refused(no) => numbers(stdout, b" X", &[no]),
     }
 }
 
 // A writer's state.
-pub fn writer(w: Writer) {
+pub fn writer(stdout: Stdout, w: Writer) {
     let s = w.sink;
     numbers(
+        stdout,
         b"",
         &[
             s.storage,
@@ -37,13 +39,14 @@ pub fn writer(w: Writer) {
             mark(w.closed),
         ],
     );
-    say_tell(w.tell());
-    say_tell(w.tell_frac());
+    say_tell(stdout, w.tell());
+    say_tell(stdout, w.tell_frac());
 }
 
 // A reader's state.
-pub fn reader(r: Reader) {
+pub fn reader(stdout: Stdout, r: Reader) {
     numbers(
+        stdout,
         b"",
         &[
             r.storage,
@@ -59,42 +62,42 @@ pub fn reader(r: Reader) {
             mark(r.error),
         ],
     );
-    say_tell(r.tell());
-    say_tell(r.tell_frac());
+    say_tell(stdout, r.tell());
+    say_tell(stdout, r.tell_frac());
 }
 
 // The bytes after a close, and up to 60 of them after any write.
-pub fn bytes(s: &[u8], closed: bool) {
+pub fn bytes(stdout: Stdout, s: &[u8], closed: bool) {
     if s.len() == 0 {
         return;
     }
     if closed | (s.len() <= 60) {
-        text(b" ");
-        hex(s);
+        text(stdout, b" ");
+        hex(stdout, s);
     }
 }
 
 // The line of a new reader.
-pub fn opened(letter: u8, r: Reader) {
-    text(&[letter]);
-    reader(r);
-    text(b"\n");
+pub fn opened(stdout: Stdout, letter: u8, r: Reader) {
+    text(stdout, &[letter]);
+    reader(stdout, r);
+    text(stdout, b"\n");
 }
 
 // The line of a read that was taken.
-pub fn read(letter: u8, value: u32, r: Reader) {
-    numbers(&[letter], &[value]);
-    reader(r);
-    text(b"\n");
+pub fn read(stdout: Stdout, letter: u8, value: u32, r: Reader) {
+    numbers(stdout, &[letter], &[value]);
+    reader(stdout, r);
+    text(stdout, b"\n");
 }
 
 // The line of a call that was refused.
-pub fn refused(no: u32) {
-    numbers(b"X", &[no]);
-    text(b"\n");
+pub fn refused(stdout: Stdout, no: u32) {
+    numbers(stdout, b"X", &[no]);
+    text(stdout, b"\n");
 }
 
 // The line of a request that has no meaning.
-pub fn malformed() {
-    text(b"?\n");
+pub fn malformed(stdout: Stdout) {
+    text(stdout, b"?\n");
 }

@@ -2,10 +2,11 @@
 use super::floats::push_floats;
 use super::input::first;
 use super::{push_all, push_decimal, push_hex, push_number};
+use std::io::{Print, Stdout};
 
 // Writes a text as it is.
-pub fn text(s: &[u8]) {
-    io::write_all(libc::STDOUT_FILENO, s);
+pub fn text(stdout: Stdout, s: &[u8]) {
+    let _ = stdout.write_all(s);
 }
 
 // The text with each number after a blank.
@@ -20,11 +21,11 @@ fn push_numbers(out: &mut [u8], n: usize, v: &[u32]) -> usize {
 }
 
 // A text, and after it each number with a blank before it; as much of it as 256 bytes hold.
-pub fn numbers(before: &[u8], v: &[u32]) {
+pub fn numbers(stdout: Stdout, before: &[u8], v: &[u32]) {
     let mut out = [0u8; 256];
     let k = push_all(&mut out, 0, before);
     let n = push_numbers(&mut out, k, v);
-    text(first(&out, n));
+    text(stdout, first(&out, n));
 }
 
 // The text with a blank and v in decimal after it, a minus before a negative number.
@@ -50,23 +51,23 @@ fn push_list(out: &mut [u8], n: usize, l: &[i32]) -> usize {
 }
 
 // A text, and after it each whole number with a blank before it; as much of it as 512 bytes hold.
-pub fn list(before: &[u8], l: &[i32]) {
+pub fn list(stdout: Stdout, before: &[u8], l: &[i32]) {
     let mut out = [0u8; 512];
     let k = push_all(&mut out, 0, before);
     let n = push_list(&mut out, k, l);
-    text(first(&out, n));
+    text(stdout, first(&out, n));
 }
 
 // Bytes in lowercase hex, of which there may be 1,280.
-pub fn hex(s: &[u8]) {
+pub fn hex(stdout: Stdout, s: &[u8]) {
     let mut out = [0u8; 2560];
     let n = push_hex(&mut out, 0, s);
-    text(first(&out, n));
+    text(stdout, first(&out, n));
 }
 
 // Each f32 as the eight hex digits of its bits, of which there may be 200.
-pub fn floats(x: &[f32]) {
+pub fn floats(stdout: Stdout, x: &[f32]) {
     let mut out = [0u8; 1600];
     let n = push_floats(&mut out, 0, x);
-    text(first(&out, n));
+    text(stdout, first(&out, n));
 }

@@ -11,11 +11,12 @@
 ghost use Rattle.std.specs.Prelude.{◌≤◌, length};
 
 use entdec::Reader;
-use libc::{STDIN_FILENO, STDOUT_FILENO};
+use std::io::{Print, Read, Stdin, Stdout};
 use stream::{Framed, Record};
 use stream_saved::Saved;
 use text::fields::field;
 use text::read::{number_at, signed_at};
+use text::write::decimal;
 use text::{Number, Whole};
 
 // The number in a field, 0 where there is none.
@@ -51,35 +52,42 @@ fn reader(s: &[u8]) -> Reader {
     }
 }
 
+// A text, as it is.
+fn say_text(stdout: Stdout, s: &[u8]) {
+    let _ = stdout.write_all(s);
+}
+
 // A tab and a number.
-fn say(v: u32) {
-    io::write_all(STDOUT_FILENO, b"\t");
-    io::print_decimal(STDOUT_FILENO, v as u64);
+fn say(stdout: Stdout, v: u32) {
+    let mut figures = [0u8; 10];
+    let n = decimal(v, &mut figures, 0);
+    say_text(stdout, b"\t");
+    say_text(stdout, &figures[..n]);
 }
 
 // Each of some numbers.
-fn say_all(v: &[u32]) {
+fn say_all(stdout: Stdout, v: &[u32]) {
     let mut k: usize = 0;
     while k < v.len() {
-        say(v[k]);
+        say(stdout, v[k]);
         k += 1;
     }
 }
 
 // The reader's numbers.
-fn say_reader(d: Reader) {
+fn say_reader(stdout: Stdout, d: Reader) {
     let mark = if d.error { 1 } else { 0 };
     let v = [
         d.storage, d.ends, d.window, d.waiting, d.total, d.offs, d.rng, d.val, d.ext, d.rem, mark,
     ];
-    say_all(&v);
+    say_all(stdout, &v);
 }
 
 // A letter and a code.
-fn say_code(letter: &[u8], code: u32) {
-    io::write_all(STDOUT_FILENO, letter);
-    say(code);
-    io::write_all(STDOUT_FILENO, b"\n");
+fn say_code(stdout: Stdout, letter: &[u8], code: u32) {
+    say_text(stdout, letter);
+    say(stdout, code);
+    say_text(stdout, b"\n");
 }
 
 // The record that a line says, or else the one that was there.
@@ -92,33 +100,33 @@ fn restore(s: &[u8], rec: Record) -> Record {
 }
 
 // A saved line is restored.
-fn restored(s: &[u8], rec: Record) -> Record {
-    say_code(b"R", stream_saved::restore(s).code);
+fn restored(stdout: Stdout, s: &[u8], rec: Record) -> Record {
+    say_code(stdout, b"R", stream_saved::restore(s).code);
     restore(s, rec)
 }
 
 // The same, by way of the lent bytes.
-fn put(rec: Record, line: &mut [u8]) -> Record {
+fn put(stdout: Stdout, rec: Record, line: &mut [u8]) -> Record {
     match stream_saved::save(rec, line) {
         Saved::Done(n) => {
             if n <= line.len() {
-                io::write_all(STDOUT_FILENO, &line[..n]);
-                io::write_all(STDOUT_FILENO, b"\n");
+                say_text(stdout, &line[..n]);
+                say_text(stdout, b"\n");
                 return restore(&line[..n], rec);
             }
             rec
         }
         Saved::Refused(no) => {
-            say_code(b"S", no);
+            say_code(stdout, b"S", no);
             rec
         }
     }
 }
 
 // The record is saved, and goes on as restored.
-fn save(rec: Record) -> Record {
+fn save(stdout: Stdout, rec: Record) -> Record {
     let mut line = [0u8; 390];
-    put(rec, &mut line)
+    put(stdout, rec, &mut line)
 }
 
 // Frame `number`, with the other numbers of a request.
@@ -136,7 +144,7 @@ fn apply(s: &[u8], d: Reader, packet: &[u8], number: u64, rec: Record) -> Framed
 }
 
 // A skip, the frame, and its repeat.
-fn thrice(s: &[u8], packet: &[u8], rec: Record) -> Record {
+fn thrice(stdout: Stdout, s: &[u8], packet: &[u8], rec: Record) -> Record {
     let number = count(s, 1) as u64;
     let d = reader(s);
     let skip = apply(s, d, packet, number + 1, rec);
@@ -144,31 +152,31 @@ fn thrice(s: &[u8], packet: &[u8], rec: Record) -> Record {
     let own = apply(s, d, packet, number, mid);
     let then = own.rec;
     let again = apply(s, d, packet, number, then);
-    io::write_all(STDOUT_FILENO, b"F");
-    say_all(&[skip.code, own.code, again.code]);
+    say_text(stdout, b"F");
+    say_all(stdout, &[skip.code, own.code, again.code]);
     let after = own.next;
-    say_reader(after);
-    io::write_all(STDOUT_FILENO, b"\n");
-    save(again.rec)
+    say_reader(stdout, after);
+    say_text(stdout, b"\n");
+    save(stdout, again.rec)
 }
 
 // The packet of a request goes to the lent bytes.
-fn unpack(s: &[u8], packet: &mut [u8], rec: Record) -> Record {
+fn unpack(stdout: Stdout, s: &[u8], packet: &mut [u8], rec: Record) -> Record {
     let p = field(s, 18);
     let start = p.start;
     let end = p.end;
     let n = (end - start) / 2;
     text::hex::bytes(&s[start..end], packet);
     if n <= packet.len() {
-        return thrice(s, &packet[..n], rec);
+        return thrice(stdout, s, &packet[..n], rec);
     }
     rec
 }
 
 // A request for a frame.
-fn frame(s: &[u8], rec: Record) -> Record {
+fn frame(stdout: Stdout, s: &[u8], rec: Record) -> Record {
     let mut packet = [0u8; 1276];
-    unpack(s, &mut packet, rec)
+    unpack(stdout, s, &mut packet, rec)
 }
 
 // A value that is not finite.
@@ -202,14 +210,14 @@ fn number(rec: Record, next: u64) -> Record {
 }
 
 // One request.
-fn answer(s: &[u8], rec: Record) -> Record {
+fn answer(stdout: Stdout, s: &[u8], rec: Record) -> Record {
     let letter = if 0 < s.len() { s[0] } else { 0 };
     match letter {
-        b'F' => frame(s, rec),
+        b'F' => frame(stdout, s, rec),
         b'N' => Record::fresh(),
         b'T' => number(rec, count(s, 1) as u64 + count(s, 2) as u64),
         b'X' => spoil(rec, count(s, 1) as usize, count(s, 2)),
-        _ => restored(s, rec),
+        _ => restored(stdout, s, rec),
     }
 }
 
@@ -229,19 +237,34 @@ fn line_end(s: &[u8], at: usize) -> usize
 }
 
 // Every line of the input.
-fn run(s: &[u8]) {
+fn run(stdout: Stdout, s: &[u8]) {
     let mut rec = Record::fresh();
     let mut at: usize = 0;
     while at < s.len() {
         let end = line_end(s, at);
-        rec = answer(&s[at..end], rec);
+        rec = answer(stdout, &s[at..end], rec);
         at = end + 1;
     }
 }
 
+// Reads until the buffer is full, the input ends or a read fails; how many bytes came.
+fn read_full(mut stdin: Stdin, s: &mut [u8]) -> usize
+    ensures { result ≤ length s.new }
+{
+    let mut done: usize = 0;
+    while done < s.len() {
+        let n = stdin.read(&mut s[done..]).unwrap_or(0);
+        if n == 0 {
+            return done;
+        }
+        done += n;
+    }
+    done
+}
+
 // Reads the whole input, and answers it.
-fn main() {
-    let mut input = io::large_buffer();
-    let n = io::read_full(STDIN_FILENO, &mut input);
-    run(&input[..n]);
+fn main(rt: HostRuntime) {
+    let mut input = [0u8; 65536];
+    let n = read_full(rt.stdin(), &mut input);
+    run(rt.stdout(), &input[..n]);
 }

@@ -11,6 +11,7 @@ use numbers::signed;
 use rate::{AllocNumbers, Wishes};
 use replay_io::list::{part, word};
 use replay_io::{input, list};
+use std::io::{Stdin, Stdout};
 use trip_call::Trip;
 
 // The allocation's numbers.
@@ -62,41 +63,41 @@ fn over(l: &[i32], storage: u32, entries: u32) -> Trip {
 }
 
 // The numbers of a line.
-fn answer(l: &[i32]) {
+fn answer(stdout: Stdout, l: &[i32]) {
     let storage = word(l, 0);
     let entries = word(l, 54);
     if (1300 < storage) | (300 < entries) {
-        return say::malformed();
+        return say::malformed(stdout);
     }
-    say::trip(over(l, storage, entries))
+    say::trip(stdout, over(l, storage, entries))
 }
 
 // Answers the line in the first n bytes of its buffer.
-fn step(line: &[u8], n: usize) {
+fn step(stdout: Stdout, line: &[u8], n: usize) {
     let mut l = [0i32; 1024];
     let count = list::read(input::first(line, n), 1, &mut l);
     if 1024 < count {
-        return say::malformed();
+        return say::malformed(stdout);
     }
-    answer(part(&l, 0, count))
+    answer(stdout, part(&l, 0, count))
 }
 
 // Answers each line of the input.
-fn run(block: &mut [u8], line: &mut [u8]) {
+fn run(stdin: Stdin, stdout: Stdout, block: &mut [u8], line: &mut [u8]) {
     let mut t = input::begin();
     let mut lines: u32 = 4294967295;
     while 0 < lines {
-        t = input::next(block, line, t);
+        t = input::next(stdin, block, line, t);
         if !t.whole {
             return;
         }
-        step(line, t.length);
+        step(stdout, line, t.length);
         lines -= 1;
     }
 }
 
-fn main() {
-    let mut block = io::large_buffer();
+fn main(rt: HostRuntime) {
+    let mut block = [0u8; 65536];
     let mut line = [0u8; 12000];
-    run(&mut block, &mut line);
+    run(rt.stdin(), rt.stdout(), &mut block, &mut line);
 }

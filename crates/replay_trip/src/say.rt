@@ -1,50 +1,51 @@
 // A trip as text.
 use replay_io::say::{numbers, text};
+use std::io::Stdout;
 use trip_call::{Call, Outcome, Trip};
 
 // A line that has no meaning.
-pub fn malformed() {
-    text(b"malformed\n");
+pub fn malformed(stdout: Stdout) {
+    text(stdout, b"malformed\n");
 }
 
 // The call of a symbol, whose place is below 2^32 here.
-fn symbol(i: usize) {
+fn symbol(stdout: Stdout, i: usize) {
     if i <= 4294967295 {
-        numbers(b"refused symbol", &[i as u32]);
+        numbers(stdout, b"refused symbol", &[i as u32]);
     }
 }
 
 // A call.
-fn call(by: Call) {
+fn call(stdout: Stdout, by: Call) {
     match by {
-        Call::New => text(b"refused new"),
-        Call::Symbol(i) => symbol(i),
-        Call::Allocation => text(b"refused allocation"),
-        Call::Close => text(b"refused close"),
+        Call::New => text(stdout, b"refused new"),
+        Call::Symbol(i) => symbol(stdout, i),
+        Call::Allocation => text(stdout, b"refused allocation"),
+        Call::Close => text(stdout, b"refused close"),
     }
 }
 
 // The line of an outcome.
-fn outcome(r: Outcome) {
+fn outcome(stdout: Stdout, r: Outcome) {
     match r {
-        Outcome::Agreed => text(b"agreed\n"),
+        Outcome::Agreed => text(stdout, b"agreed\n"),
         Outcome::Refused(by, no) => {
-            call(by);
-            numbers(b"", &[no]);
-            text(b"\n");
+            call(stdout, by);
+            numbers(stdout, b"", &[no]);
+            text(stdout, b"\n");
         }
-        Outcome::NotClosed => text(b"not closed\n"),
-        Outcome::Disagreed => text(b"disagreed\n"),
+        Outcome::NotClosed => text(stdout, b"not closed\n"),
+        Outcome::Disagreed => text(stdout, b"disagreed\n"),
     }
 }
 
 // The line of a trip.
-pub fn trip(t: Trip) {
+pub fn trip(stdout: Stdout, t: Trip) {
     match t {
-        Trip::Done(r) => outcome(r),
+        Trip::Done(r) => outcome(stdout, r),
         Trip::Refused(no) => {
-            numbers(b"refused", &[no]);
-            text(b"\n");
+            numbers(stdout, b"refused", &[no]);
+            text(stdout, b"\n");
         }
     }
 }
