@@ -21,6 +21,12 @@ use Rattle.vq.proofs.Spacing.{above, below}
 -- the order of two values, by whole numbers
 lt→cross : (x y : Float) → T (positive x) → T (positive y) → T (lt x y) → num x * den y < num y * den x
 unfolding lt
+lt→cross lib.Ieee.nan y p q t = elim p [ ]
+lt→cross (lib.Ieee.inf _) y p q t = elim p [ ]
+lt→cross (fin false m e) lib.Ieee.nan p q t = elim q [ ]
+lt→cross (fin false m e) (lib.Ieee.inf _) p q t = elim q [ ]
+lt→cross (fin false m e) (fin mathlib.Core.Bool.true n d) p q t = elim q [ ]
+lt→cross (fin mathlib.Core.Bool.true m e) y p q t = elim p [ ]
 lt→cross (fin false m e) (fin false n d) p q t = ltb→lt (m * up e * down d) (n * up d * down e) t
 
 -- a product's square

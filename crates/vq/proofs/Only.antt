@@ -25,12 +25,24 @@ bits-same f m n e d h =
 
 -- so they are one value
 same_size : (f : Format) (x y : Float) → T (fits f x) → T (fits f y) → T (positive x) → T (positive y) → num x * den y ≡ num y * den x → x ≡ y
+same_size f lib.Ieee.nan y a b p q h = elim p [ ]
+same_size f (lib.Ieee.inf _) y a b p q h = elim p [ ]
+same_size f (fin false m e) lib.Ieee.nan a b p q h = elim q [ ]
+same_size f (fin false m e) (lib.Ieee.inf _) a b p q h = elim q [ ]
+same_size f (fin false m e) (fin mathlib.Core.Bool.true n d) a b p q h = elim q [ ]
+same_size f (fin mathlib.Core.Bool.true m e) y a b p q h = elim p [ ]
 same_size f (fin false m e) (fin false n d) a b p q h =
     sym (of_bits-to_bits f (fin false m e) a) ∙ ap (of_bits f) (bits-same f m n e d h) ∙ of_bits-to_bits f (fin false n d) b
 
 -- the order of two values, from whole numbers
 cross→lt : (x y : Float) → T (positive x) → T (positive y) → num x * den y < num y * den x → T (lt x y)
 unfolding lt
+cross→lt lib.Ieee.nan y p q h = elim p [ ]
+cross→lt (lib.Ieee.inf _) y p q h = elim p [ ]
+cross→lt (fin false m e) lib.Ieee.nan p q h = elim q [ ]
+cross→lt (fin false m e) (lib.Ieee.inf _) p q h = elim q [ ]
+cross→lt (fin false m e) (fin mathlib.Core.Bool.true n d) p q h = elim q [ ]
+cross→lt (fin mathlib.Core.Bool.true m e) y p q h = elim p [ ]
 cross→lt (fin false m e) (fin false n d) p q h = lt→ltb (m * up e * down d) (n * up d * down e) h
 
 -- r is below t: the middle's square is above n, by r, and below n, by t

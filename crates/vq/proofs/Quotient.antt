@@ -20,11 +20,20 @@ use lib.Ieee.Positive.{num, den, positive, den_pos, value→cross, positive_of_v
 
 -- its numerator is above 0
 pub num-some : (x : Float) → T (positive x) → 0 < num x
+num-some nan p = elim p [ ]
+num-some (inf _) p = elim p [ ]
+num-some (fin mathlib.Core.Bool.true m e) p = elim p [ ]
 num-some (fin false m e) p = mul-pos (ltb→lt 0 m p) (up_pos e)
 
 -- the quotient is rounded once
 pub div_is : (f : Format) (x y : Float) → T (positive x) → T (positive y) → div f x y ≡ round f false (num x * den y) (num y * den x)
 unfolding div
+div_is f nan y p q = elim p [ ]
+div_is f (inf _) y p q = elim p [ ]
+div_is f (fin false m e) nan p q = elim q [ ]
+div_is f (fin false m e) (inf _) p q = elim q [ ]
+div_is f (fin false m e) (fin mathlib.Core.Bool.true _ d) p q = elim q [ ]
+div_is f (fin mathlib.Core.Bool.true m e) y p q = elim p [ ]
 div_is f (fin false m e) (fin false zero d) p q = absurd (lt_irrefl 0 (ltb→lt 0 0 q))
 div_is f (fin false m e) (fin false (suc n) d) p q =
     ap (λ (b : Bool). cond b (cond (eqb m 0) nan (inf false)) (round f false (m * up e * down d) (suc n * up d * down e))) (eqb-suc-zero n)

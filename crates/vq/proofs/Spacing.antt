@@ -30,6 +30,9 @@ Spaced j a d = ((k : ℕ) × (a * 2 ^ j ≡ k * d)) ⊎ (a * 2 ^ j < 8388608 * d
 
 -- by the exponent
 spaced : (j : ℕ) (y : Float) → T (fits binary32 y) → T (positive y) → Spaced j (num y) (den y)
+spaced j lib.Ieee.nan t p = elim p [ ]
+spaced j (lib.Ieee.inf _) t p = elim p [ ]
+spaced j (fin mathlib.Core.Bool.true _ e) t p = elim p [ ]
 spaced j (fin false zero e) t p = absurd (lt_irrefl 0 (ltb→lt 0 0 p))
 spaced j (fin false (suc p) (pos k)) t q = inl (suc p * 2 ^ k * 2 ^ j, sym (mul-one (suc p * 2 ^ k * 2 ^ j)))
 spaced j (fin false (suc p) (negsuc k)) t q = go (le_or_lt (suc k) j)

@@ -1,0 +1,12 @@
+-- `vq::root::scale`: n has as many digits as its logarithm says. Assumes nothing.
+use native.Mathlib.Omega.{arith}
+use Rattle.entcode.specs.Range.{ilog}
+use Rattle.entcode.proofs.Logs.{digits}
+use Rattle.vq.proofs.Squares.{shifted}
+use Rattle.vq.proofs.root.scale.Goals as goal
+
+pub returns : goal.returns
+returns c =
+    let b = c in
+    let d = digits b.args.n b.requires (omega (arith, b.ranges.n)) in
+    rw c.ilog.ensures.0 (shifted b.args.n (ilog b.args.n) d.digits-pos d.digits_le d.from d.to)
