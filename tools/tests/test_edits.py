@@ -49,16 +49,22 @@ class Record(unittest.TestCase):
         text = edits.HEAD + "| a/one | specs/M.antt:3 | `x` is no `y / z` | 0123 |\n"
         self.assertEqual(edits.recorded(text), {"a/one": ["a/one", "specs/M.antt:3", "`x` is no `y / z`", "0123"]})
 
+    def test_a_kit_may_stand_before_the_sum(self):
+        row = ["a/one", "specs/M.antt:3:1", "`x`", "rattle-kit-13f 0123"]
+        self.assertEqual(edits.recorded("| " + " | ".join(row) + " |\n"), {"a/one": row})
+
     def test_the_first_error(self):
-        log = "crate a: 3 modules\n/room/a/proofs/M.antt:7:3: error: this is  left,\nso give\n/room/a/proofs/N.antt:1: error: later\n"
-        self.assertEqual(edits.said(log, "/room/a"), ("proofs/M.antt:7:3", "this is left,"))
+        log = "rt: must-fail a/on.edit: refused, as it must be: src/x.rt:1:1: error: no\n"
+        log += "rt: must-fail a/one.edit: refused, as it must be: proofs/M.antt:7:3: error: this is  left: x ≡ y | z\nrt: more\n"
+        self.assertEqual(edits.said("a/one", log), ("proofs/M.antt:7:3", "this is left: x ≡ y / z"))
 
-    def test_of_a_rewriting_what_it_leaves(self):
-        log = "/room/M.antt:1: error: rw: give a proof of that\n  x ≡ y | z\n"
-        self.assertEqual(edits.said(log, "/room"), ("M.antt:1", "rw: x ≡ y / z"))
+    def test_without_an_error_that_has_a_place(self):
+        log = "rt: must-fail a/one.edit: refused, as it must be (only by a limit of the prover): 9\n"
+        self.assertEqual(edits.said("a/one", log), ("", "refused, as it must be (only by a limit of the prover): 9"))
 
-    def test_no_error(self):
-        self.assertEqual(edits.said("logic=proved\n", "/room"), (None, None))
+    def test_what_is_not_refused(self):
+        for ended in ("NOT REFUSED: the crate is still proved", "BAD EDIT: it changes nothing", "NOT TRIED: its check was killed"):
+            self.assertIsNone(edits.said("a/one", f"rt: must-fail a/one.edit: {ended}\n"))
 
 
 if __name__ == "__main__":
