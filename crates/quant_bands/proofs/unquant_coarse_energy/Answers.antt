@@ -35,11 +35,9 @@ size_is : (c : After-place_of-size) → c.place_of-size.result ≡ clip c.args.l
 size_is c = rw (to_z-of_z c.ranges.lm) at c.place_of-size.ensures
 
 start_is : (c : After-place_of-from) →
-    let start = c in
-    c.place_of-from.result ≡ clip start.args.start
+    c.place_of-from.result ≡ clip c.args.start
 start_is c =
-    let start-2 = c in
-    rw (to_z-of_z start-2.ranges.start) at c.place_of-from.ensures
+    rw (to_z-of_z c.ranges.start) at c.place_of-from.ensures
 
 end_is : (c : After-place_of-to) →
     let start = c in
@@ -50,9 +48,7 @@ end_is c =
 
 pub coarse-next-requires : goal.coarse-next-requires
 coarse-next-requires c =
-    let e = c in
-    let t = e in
-    let a = t.args in
+    let a = c.args in
     let o = passed (goal.at.coarse-next-requires c).Then-no-eq0 in
     let q = coarse_in a.c a.lm a.start a.end a.intra o.known in record {
       bands_in = (
@@ -65,20 +61,16 @@ coarse-next-requires c =
 
 pub returns-then-no-eq0 : goal.returns-then-no-eq0
 returns-then-no-eq0 c =
-    let r = c in
-    let e = r in
-    let t = e in
-    let p = t in
     let g = rw (
       channels (goal.at.returns-then-no-eq0 c).After-clipped-channels,
       size_is (goal.at.returns-then-no-eq0 c).After-place_of-size,
       start_is (goal.at.returns-then-no-eq0 c).After-place_of-from,
       end_is (goal.at.returns-then-no-eq0 c).After-place_of-to,
       to_z-of_z
-          p.ranges.intra,
-    ) at r.coarse-next.ensures in
-    let a = p.args in
-    coarse_got a.c a.lm a.start a.end a.intra a.s.now a.d a.energies.now (gated (goal.at.returns-then-no-eq0 c).After-refusal_coarse-no) t.if-no-eq0.true g
+          c.ranges.intra,
+    ) at c.coarse-next.ensures in
+    let a = c.args in
+    coarse_got a.c a.lm a.start a.end a.intra a.s.now a.d a.energies.now (gated (goal.at.returns-then-no-eq0 c).After-refusal_coarse-no) c.if-no-eq0.true g
 
 pub returns-else-no-eq0 : goal.returns-else-no-eq0
 returns-else-no-eq0 c =

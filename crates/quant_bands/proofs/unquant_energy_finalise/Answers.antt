@@ -50,9 +50,7 @@ left_is c =
 
 pub finalise-next-requires : goal.finalise-next-requires
 finalise-next-requires c =
-    let e = c in
-    let t = e in
-    let a = t.args in
+    let a = c.args in
     let o = passed (goal.at.finalise-next-requires c).Then-no-eq0 in
     let l = sized _ _ _ o.sizes in record {
       bands_in = (
@@ -66,13 +64,10 @@ finalise-next-requires c =
 
 pub returns-then-no-eq0 : goal.returns-then-no-eq0
 returns-then-no-eq0 c =
-    let r = c in
-    let e = r in
-    let t = e in
-    let g = rw (channels (goal.at.returns-then-no-eq0 c).After-clipped-channels, start_is (goal.at.returns-then-no-eq0 c).After-place_of-from, end_is (goal.at.returns-then-no-eq0 c).After-place_of-to, left_is (goal.at.returns-then-no-eq0 c).After-clipped-bits) at r.finalise-next.ensures in
-    let a = t.args in
+    let g = rw (channels (goal.at.returns-then-no-eq0 c).After-clipped-channels, start_is (goal.at.returns-then-no-eq0 c).After-place_of-from, end_is (goal.at.returns-then-no-eq0 c).After-place_of-to, left_is (goal.at.returns-then-no-eq0 c).After-clipped-bits) at c.finalise-next.ensures in
+    let a = c.args in
     finalise_got a.c a.start a.end a.fine.now a.priorities.now a.left a.s.now a.d a.energies.now (gated (goal.at.returns-then-no-eq0 c).After-refusal_finalise-no)
-    t.if-no-eq0.true g
+    c.if-no-eq0.true g
 
 pub returns-else-no-eq0 : goal.returns-else-no-eq0
 returns-else-no-eq0 c =

@@ -5,7 +5,6 @@ use Rattle.quant_bands.proofs.coarse_band.kind_of.Goals as goal
 
 pub returns : goal.returns
 returns c =
-    let p = c in
-    let a = p.args in
-    kind-is a.lm a.intra a.i (search rules) p.pair_of-k.ensures.0 c.zero_in.ensures.0
+    let a = c.args in
+    kind-is a.lm a.intra a.i (search rules) c.pair_of-k.ensures.0 c.zero_in.ensures.0
     c.decay_in.ensures.0 c.coef_of.ensures c.beta_of.ensures

@@ -5,13 +5,9 @@ use Rattle.quant_bands.proofs.last_bits.spend.Goals as goal
 
 pub offset-requires : goal.offset-requires
 offset-requires c =
-    let r = c in
-    let p = r in
-    (rw r.raw-y.ensures (raw-value 1 p.args.s.now p.args.g.next), p.requires.k_in_bounds.1)
+    (rw c.raw-y.ensures (raw-value 1 c.args.s.now c.args.g.next), c.requires.k_in_bounds.1)
 
 pub returns : goal.returns
 returns c =
-    let o = c in
-    let r = o in
-    let a = r.args in
-    spend-is a.fine a.s.now a.k a.e.now a.g.left a.g.next r.raw-y.ensures o.offset.ensures
+    let a = c.args in
+    spend-is a.fine a.s.now a.k a.e.now a.g.left a.g.next c.raw-y.ensures c.offset.ensures

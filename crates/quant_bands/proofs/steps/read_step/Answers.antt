@@ -16,12 +16,10 @@ returns-then-left-ge2 c =
 pub returns-then-left-ge1 : goal.returns-then-left-ge1
 unfolding read_step
 returns-then-left-ge1 c =
-    let p = c in
-    rw (← p.bits_left-left.ensures, lt-leb 15 _ p.if-left-ge15.false, lt-leb 2 _ p.if-left-ge2.false, le-leb 1 _ c.if-left-ge1.true)
+    rw (← c.bits_left-left.ensures, lt-leb 15 _ c.if-left-ge15.false, lt-leb 2 _ c.if-left-ge2.false, le-leb 1 _ c.if-left-ge1.true)
     c.read_minus.ensures
 
 pub returns : goal.returns
 unfolding read_step
 returns c =
-    let p = c in
-    rw (← p.bits_left-left.ensures, lt-leb 15 _ p.if-left-ge15.false, lt-leb 2 _ p.if-left-ge2.false, lt-leb 1 _ c.if-left-ge1.false)
+    rw (← c.bits_left-left.ensures, lt-leb 15 _ c.if-left-ge15.false, lt-leb 2 _ c.if-left-ge2.false, lt-leb 1 _ c.if-left-ge1.false)

@@ -4,6 +4,5 @@ use Rattle.quant_bands.proofs.work.coarse.Goals as goal
 
 pub returns : goal.returns
 returns c =
-    let r = c in
-    let a = r.args in
-    coarse-is a.c a.lm a.intra a.start a.end a.s.now a.d a.energies.now r.coarse_bands-g.ensures
+    let a = c.args in
+    coarse-is a.c a.lm a.intra a.start a.end a.s.now a.d a.energies.now c.coarse_bands-g.ensures

@@ -19,24 +19,20 @@ pub spend_pass-y-requires : goal.spend_pass-y-requires
 spend_pass-y-requires c =
     let t = c.loop-pass-test in
     let l = c.loop-pass in
-    let p = c in
-    let a = p.args in
-    let q = p.requires.bands_in in record {
+    let a = c.args in
+    let q = c.requires.bands_in in record {
       bands_in = (q.0, l.invariant.1 ∙ q.1, q.2, q.3);
       ready = passes_ready a.c (count_at a.fine.now) (count_at a.priorities.now) a.start a.end a.s.now l.pass
           (spending a.energies.now a.left a.d)
-          q.0.end-le (omega (arith, t)) p.requires.ready l.invariant.2;
+          q.0.end-le (omega (arith, t)) c.requires.ready l.invariant.2;
     }
 
 pub loop-pass-preserved : goal.loop-pass-preserved
 loop-pass-preserved c =
-    let at-loop-test = c in
-    let at-loop = at-loop-test in
-    let start-2 = at-loop in
     let r = c.spend_pass-y in
-    let t = at-loop-test.loop-pass-test in
-    let l = at-loop.loop-pass in
-    let a = start-2.args in (
+    let t = c.loop-pass-test in
+    let l = c.loop-pass in
+    let a = c.args in (
       omega (arith, t),
       r.auto.energies ∙ l.invariant.1,
       places-up (pass_of a.c (count_at a.fine.now) (count_at a.priorities.now) a.start a.end a.s.now) 0 l.pass _ (omega arith)

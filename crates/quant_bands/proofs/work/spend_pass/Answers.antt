@@ -13,15 +13,14 @@ use Rattle.quant_bands.proofs.work.spend_pass.Goals as goal
 use Rattle.quant_bands.proofs.work.spend_pass.Goals.{In-loop-i}
 
 -- a band is left
-inside : (t : In-loop-i) → let l = t.before.before in l.loop-i.i < l.before.before.before.args.end
-inside t = ltb-true _ _ ((and-eq-true_iff _ _).0 t.if1.true).0
+inside : (c : In-loop-i) → c.loop-i.i < c.args.end
+inside c = ltb-true _ _ ((and-eq-true_iff _ _).0 c.loop-i-test.true).0
 
 pub loop-i-init : goal.loop-i-init
 loop-i-init c =
-    let p = c in
-    let a = p.args in (
+    let a = c.args in (
       le_refl _,
-      omega (arith, p.requires.bands_in.0.start-lt),
+      omega (arith, c.requires.bands_in.0.start-lt),
       refl,
       places-none (spend_band a.c a.pass (count_at a.fine.now) (count_at a.priorities.now) a.s.now) a.start _,
     )
@@ -30,20 +29,18 @@ pub spend_band-y-requires : goal.spend_band-y-requires
 spend_band-y-requires c =
     let l = c.loop-i in
     let h = inside (goal.at.spend_band-y-requires c).In-loop-i in
-    let p = c in
-    let a = p.args in
-    let b = p.requires.bands_in.0 in record {
-      e_len = (l.invariant.2 ∙ p.requires.bands_in.1, p.requires.bands_in.2, p.requires.bands_in.3, omega (arith, b.end-le), b.c_low);
+    let a = c.args in
+    let b = c.requires.bands_in.0 in record {
+      e_len = (l.invariant.2 ∙ c.requires.bands_in.1, c.requires.bands_in.2, c.requires.bands_in.3, omega (arith, b.end-le), b.c_low);
       ready = pass_ready a.c a.pass (count_at a.fine.now) (count_at a.priorities.now) a.s.now a.start _ (l.i - a.start)
-          (omega (arith, b.end-le)) p.requires.ready l.invariant.3;
+          (omega (arith, b.end-le)) c.requires.ready l.invariant.3;
     }
 
 pub loop-i-preserved : goal.loop-i-preserved
 loop-i-preserved c =
     let r = c.spend_band-y in
-    let t = c in
-    let l = t.loop-i in
-    let a = t.args in (
+    let l = c.loop-i in
+    let a = c.args in (
       omega (arith, l.invariant),
       omega (arith, inside (goal.at.loop-i-preserved c).In-loop-i),
       r.auto.e ∙ l.invariant.2,
