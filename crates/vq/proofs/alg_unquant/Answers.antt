@@ -17,7 +17,7 @@ question p = let a = p.args in shape_request a.n a.k a.spread a.b a.gain
 
 -- the gate's number, in the contract's terms
 gated : (c : After-refusal_shape-no) → let p = c in let a = p.args in
-    c.refusal_shape-no.result ≡ refusal_shape (question p) (length a.shape.now) a.s.now a.d
+    c.refusal_shape-no.result ≡ refusal_shape (question (goal.at.After-refusal_shape-no c).Start) (length a.shape.now) a.s.now a.d
 unfolding refusal_shape
 gated c =
     let f = c.ranges in
