@@ -13,13 +13,11 @@ inside c = sym c.in_domain.ensures ∙ c.if-in_domain.true
 
 pub returns-then-pvq_v-eq0 : goal.returns-then-pvq_v-eq0
 returns-then-pvq_v-eq0 c =
-    let t = c in
-    let a = t.args in
+    let a = c.args in
     let d = domain a.n a.k (inside (goal.at.returns-then-pvq_v-eq0 c).Then-in_domain) in
     rw (inside (goal.at.returns-then-pvq_v-eq0 c).Then-in_domain) (read_seven a.n a.k (count-zero a.n a.k c.pvq_v.ensures (omega arith) c.if-pvq_v-eq0.true))
 
 pub returns-else-pvq_v-eq0 : goal.returns-else-pvq_v-eq0
 returns-else-pvq_v-eq0 c =
-    let t = c in
-    let a = t.args in
+    let a = c.args in
     rw (inside (goal.at.returns-else-pvq_v-eq0 c).Then-in_domain) (read_none a.n a.k (count-some a.n a.k c.pvq_v.ensures c.if-pvq_v-eq0.false))

@@ -19,15 +19,13 @@ known c =
 
 pub returns-then-pvq_v-eq0 : goal.returns-then-pvq_v-eq0
 returns-then-pvq_v-eq0 c =
-    let t = c in
-    let a = t.args in
+    let a = c.args in
     let d = known (goal.at.returns-then-pvq_v-eq0 c).Then-y-in_domain in
     rw (inside (goal.at.returns-then-pvq_v-eq0 c).Then-y-in_domain) (write_seven a.y.now a.n a.k (count-zero a.n a.k c.pvq_v.ensures (omega arith) c.if-pvq_v-eq0.true))
 
 pub returns-then-total-k : goal.returns-then-total-k
 returns-then-total-k c =
-    let t = c in
-    let a = t.args in
+    let a = c.args in
     rw (inside (goal.at.returns-then-total-k c).Then-y-in_domain)
     (write-none a.y.now a.n a.k
     (count-some a.n a.k c.pvq_v.ensures c.if-pvq_v-eq0.false)
@@ -35,8 +33,7 @@ returns-then-total-k c =
 
 pub returns-else-total-k : goal.returns-else-total-k
 returns-else-total-k c =
-    let t = c in
-    let a = t.args in
+    let a = c.args in
     rw (inside (goal.at.returns-else-total-k c).Then-y-in_domain)
     (write_eight a.y.now a.n a.k
     (count-some a.n a.k c.pvq_v.ensures c.if-pvq_v-eq0.false)

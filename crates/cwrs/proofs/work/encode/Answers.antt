@@ -8,19 +8,17 @@ use Rattle.cwrs.proofs.work.encode.Goals as goal
 
 pub put_uint-requires : goal.put_uint-requires
 put_uint-requires c =
-    let b = c in
-    let a = b.args in
-    let p = b.requires.le_n in
+    let a = c.args in
+    let p = c.requires.le_n in
     let v = count-is a.n a.k c.pvq_v-v.ensures p.5 in (
-      b.requires.ready,
+      c.requires.ready,
       omega (arith, v, V_four a.n a.k p.0 p.3),
       omega (arith, v, c.icwrs-i.ensures, index_below a.n a.k a.y.now p.2 p.6),
     )
 
 pub returns : goal.returns
 returns c =
-    let b = c in
-    let a = b.args in
+    let a = c.args in
     let v = c.pvq_v-v in
     let i = c.icwrs-i in
-    wrote a.n a.k a.y.now (wr a.w a.buf.now) b.requires.le_n.5 v.ensures i.ensures c.put_uint.ensures
+    wrote a.n a.k a.y.now (wr a.w a.buf.now) c.requires.le_n.5 v.ensures i.ensures c.put_uint.ensures

@@ -25,10 +25,9 @@ record Facts (y : List ℤ) (n j e s : ℕ) : Type 0 where
 facts : (c : After-unsigned_abs-s) → let p = c in
     Facts p.args.y.now p.args.n p.loop-j.j p.loop-j.e c.unsigned_abs-s.result
 facts c =
-    let b = c in
     let l = c.loop-j in
-    let y = b.args.y.now in
-    let n = b.args.n in
+    let y = c.args.y.now in
+    let n = c.args.n in
     let r = c.unsigned_abs-s.result in
     let f : SFits w32 (get_or y (l.j - 1) (pos 0)) = search rules in
     let q : r ≡ nat_abs (get_or y (l.j - 1) (pos 0)) = c.unsigned_abs-s.ensures.0 ∙ ap nat_abs (to_z-of_z f) in
@@ -54,9 +53,8 @@ loop-j-preserved c = let f = facts (goal.at.loop-j-preserved c).After-unsigned_a
 
 pub returns : goal.returns
 returns c =
-    let b = c in
     let l = c.loop-j in
-    let v = take b.args.n b.args.y.now in
+    let v = take c.args.n c.args.y.now in
     let z : l.j ≡ 0 = omega arith in
-    let e : l.e ≡ energy v = l.invariant.1 ∙ ap (λ (m : ℕ). energy (slice m b.args.n b.args.y.now)) z in
-    (e, omega (arith, energy-le 128 v b.requires.2))
+    let e : l.e ≡ energy v = l.invariant.1 ∙ ap (λ (m : ℕ). energy (slice m c.args.n c.args.y.now)) z in
+    (e, omega (arith, energy-le 128 v c.requires.2))

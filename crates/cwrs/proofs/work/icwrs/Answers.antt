@@ -18,15 +18,13 @@ use Rattle.cwrs.proofs.work.icwrs.Goals.{After-unsigned_abs, In-loop-j}
 first : (c : In-loop-j) → let a = c.args in let l = c.loop-j in
     NextPlace a.y.now a.n l.j l.k l.i (nat_abs (get_or a.y.now (l.j - 1) (pos 0)))
 first c =
-    let b = c in
     let l = c.loop-j in
-    next_place b.args.y.now b.args.n l.j l.k l.i _ (omega arith) (omega arith) b.requires.0 b.requires.2 b.requires.3 l.invariant.1
+    next_place c.args.y.now c.args.n l.j l.k l.i _ (omega arith) (omega arith) c.requires.0 c.requires.2 c.requires.3 l.invariant.1
     l.invariant.2 refl
 
 abbrev place : After-unsigned_abs → ℤ
 place c =
-    let p = c in
-    get_or p.args.y.now (p.loop-j.j - 1) (pos 0)
+    get_or c.args.y.now (c.loop-j.j - 1) (pos 0)
 
 held : (c : After-unsigned_abs) → SFits w32 (place c)
 held c = search rules
@@ -35,10 +33,9 @@ held c = search rules
 second : (c : After-unsigned_abs) → let p = c in
     NextPlace p.args.y.now p.args.n p.loop-j.j p.loop-j.k p.loop-j.i c.unsigned_abs.result
 second c =
-    let b = c in
     let l = c.loop-j in
-    next_place b.args.y.now b.args.n l.j l.k l.i c.unsigned_abs.result (omega arith) (omega arith) b.requires.0 b.requires.2
-    b.requires.3 l.invariant.1 l.invariant.2 (c.unsigned_abs.ensures.0 ∙ ap nat_abs (to_z-of_z (held c)))
+    next_place c.args.y.now c.args.n l.j l.k l.i c.unsigned_abs.result (omega arith) (omega arith) c.requires.0 c.requires.2
+    c.requires.3 l.invariant.1 l.invariant.2 (c.unsigned_abs.ensures.0 ∙ ap nat_abs (to_z-of_z (held c)))
 
 -- the number with a negative place, and with any other
 below : (c : After-unsigned_abs) → is_neg (to_z w32 (of_z w32 (place c))) ≡ true → is_neg (place c) ≡ true

@@ -13,18 +13,16 @@ use Rattle.cwrs.proofs.work.reach.Goals.{In-loop-p}
 over : (c : In-loop-p) → let a = c.args in let j = c.loop-p.left in
     (1 ≤ j) × (reach a.n j a.i ≡ reach a.n (j - 1) a.i)
 over c =
-    let b = c in
-    reach-down b.args.n c.loop-p.left b.args.i b.requires.0 (omega arith)
+    reach-down c.args.n c.loop-p.left c.args.i c.requires.0 (omega arith)
 
 pub overflow_sub-left : goal.overflow_sub-left
 overflow_sub-left c = (over (goal.at.overflow_sub-left c).In-loop-p).0
 
 pub pvq_u-p-requires : goal.pvq_u-p-requires
 pvq_u-p-requires c =
-    let b = c in
     let j = c.loop-p.left in
     let d = over (goal.at.pvq_u-p-requires c).In-loop-p in
-    (omega arith, omega arith, omega (arith, b.ranges.here, up-le' b.args.n b.requires.0 (j - 1) b.args.k (omega arith)))
+    (omega arith, omega arith, omega (arith, c.ranges.here, up-le' c.args.n c.requires.0 (j - 1) c.args.k (omega arith)))
 
 pub loop-p-smaller : goal.loop-p-smaller
 loop-p-smaller c = let d = over (goal.at.loop-p-smaller c).In-loop-p in omega arith
@@ -39,9 +37,8 @@ loop-p-preserved c =
 
 pub returns : goal.returns
 returns c =
-    let b = c in
     let l = c.loop-p in (
-      sym (l.invariant.3 ∙ reach-stop b.args.n l.left b.args.i (omega arith)),
+      sym (l.invariant.3 ∙ reach-stop c.args.n l.left c.args.i (omega arith)),
       omega arith,
       l.invariant.1,
       l.invariant.2,
