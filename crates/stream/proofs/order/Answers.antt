@@ -1,0 +1,14 @@
+-- `stream::order`: both numbers' domain, then the order, as the refusals come. Assumes nothing.
+use mathlib.Core.Bool.{true}
+use mathlib.Core.Path.{◌≡◌}
+use Rattle.entcode.specs.Refusal.{refusal}
+use Rattle.stream.specs.Frame.{ordered}
+use Rattle.stream.proofs.order.Goals as goal
+
+pub returns : goal.returns
+unfolding ordered
+returns c =
+    let o = c in
+    let k = o in
+    let r : c.refusal_of.result ≡ refusal true k.both_in_domain-known.result true o.order_of-special.result true true = c.refusal_of.ensures in
+    rw (k.both_in_domain-known.ensures, o.order_of-special.ensures) at r
