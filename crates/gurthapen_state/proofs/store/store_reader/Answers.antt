@@ -1,0 +1,14 @@
+-- `gurthapen_state::store::store_reader`: number by number. Assumes nothing.
+use Rattle.gurthapen_state.specs.State.{list_of_reader}
+use Rattle.gurthapen_state.proofs.Numbers.{as_number, same_number}
+use Rattle.gurthapen_state.proofs.store.store_reader.Goals as goal
+
+pub returns : goal.returns
+unfolding list_of_reader
+returns c =
+    let f = c in
+    rw (
+      as_number c.struct_known-1.given.1.1.1.1.1.1.1.1.1.0,
+      same_number f.flag-error.result f.flag-error.type-inv,
+      f.flag-error.ensures,
+    ) at c.put.ensures
