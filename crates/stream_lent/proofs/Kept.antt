@@ -22,6 +22,11 @@ keeps zero r q k f = absurd (true≢false (ap is_done f))
 keeps (suc n) r q k f = refl
 
 -- of what a frame gave
-pub refused-keeps : (h : Record) (q : Call) (r : AppliedStep) → said_step r ≡ step_of (framed h q) → (k : ℕ) → said r.answer ≡ refused k → r.rec ≡ h
+refused-keeps : (h : Record) (q : Call) (r : AppliedStep) → said_step r ≡ step_of (framed h q) → (k : ℕ) → said r.answer ≡ refused k → r.rec ≡ h
 refused-keeps h q r e k f =
     ap (λ (x : Stepped). x.rec) e ∙ keeps (refusal_frame h q) h q k (sym (ap (λ (x : Stepped). x.said) e) ∙ f)
+
+-- what a frame gave, part by part
+pub lent : (h : Record) (q : Call) (r : AppliedStep) → said_step r ≡ step_of (framed h q)
+    → (said r.answer ≡ (step_of (framed h q)).said) × (r.rec ≡ (step_of (framed h q)).rec) × ((k : ℕ) → said r.answer ≡ refused k → r.rec ≡ h)
+lent h q r e = (ap (λ (x : Stepped). x.said) e, ap (λ (x : Stepped). x.rec) e, refused-keeps h q r e)

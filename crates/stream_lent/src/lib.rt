@@ -1,6 +1,5 @@
 // The stream record for callers that lend it and keep it where it is, over the frame call that takes it by value.
-// Document 01, "Energies, shapes and the stream record". What is lent is proved by a walk of its MIR, which tools/walks writes; what branches stands in
-// `moves`, and `plain` is for callers that lend nothing.
+// Document 01, "Energies, shapes and the stream record". What branches stands in `moves`, and `plain` is for callers that lend nothing.
 #![tactic(auto)]
 
 ghost use Rattle.std.specs.Prelude.{◌≡◌, ℕ};

@@ -1,4 +1,4 @@
-// For callers that lend nothing: the record is put into a local, lent, and handed back. A caller of this needs no walk.
+// For callers that lend nothing: the record is put into a local, lent, and handed back.
 ghost use Rattle.std.specs.Prelude.{◌≡◌};
 ghost use Rattle.stream.specs.Frame.{call, framed};
 ghost use Rattle.stream_lent.specs.Lent.{said_step, step_of};
