@@ -1,8 +1,9 @@
 #!/usr/bin/env python3
-"""tools/crates.py --below NAME | --lines NAME: what crates.txt says, for the scripts in Python that take it from here and for those of the shell.
+"""tools/crates.py --below NAME | --lines NAME | --programs: what crates.txt says, for the scripts in Python that take it from here and for those of the shell.
 
 --below NAME: the crates of this repository that NAME reaches, without itself, one a line.
 --lines NAME: of NAME and of each of those what its line says, `NAME: ALL THAT IT NAMES`, in the order of crates.txt.
+--programs: the crates that are programs, one a line.
 Exit 0; 1: there is no such crate; 2: it was called wrongly.
 """
 import glob, os, re, sys
@@ -80,6 +81,9 @@ def programs(root=ROOT):
 def main(words):
     if words in (["-h"], ["--help"]):
         print(__doc__.strip())
+        return 0
+    if words == ["--programs"]:
+        print("\n".join(programs()))
         return 0
     if len(words) != 2 or words[0] not in ("--below", "--lines"):
         print(__doc__.strip(), file=sys.stderr)

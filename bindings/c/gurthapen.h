@@ -1,7 +1,7 @@
 /*
  * The range coder of CELT (RFC 6716), its Laplace values, pulse words, lookups, bit allocation, energies and shapes, the stream record, the
- * lister and the round trip: what libgurthapen.a has. `rt staticlib gurthapen`, run in the repository, proves every call and writes
- * target/staticlib/libgurthapen.a, for x86-64 Linux.
+ * lister and the round trip: what libgurthapen.a has. bindings/archive, run in the repository, proves every call and writes
+ * crates/gurthapen_c/out/libgurthapen.a, for x86-64 Linux.
  *
  * Every call answers 0, or the number of a refusal (enum gurthapen_refusal), and then every list is as it was. It takes any number and any
  * length.

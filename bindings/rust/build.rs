@@ -1,5 +1,5 @@
-//! Has the Rattle kit prove the crate `gurthapen` and write libgurthapen.a, and links that. Where GURTHAPEN_LIBRARY names a folder, the
-//! libgurthapen.a in it, which `rt staticlib gurthapen` wrote before, is linked instead.
+//! Has the Rattle kit prove the crate `gurthapen_c` and write libgurthapen.a, by bindings/archive, and links that. Where GURTHAPEN_LIBRARY names a
+//! folder, the libgurthapen.a in it, which bindings/archive wrote before, is linked instead.
 
 use std::env;
 use std::path::{Path, PathBuf};
@@ -12,16 +12,13 @@ fn stop(why: &str) -> ! {
 
 /// The folder of the archive that the kit proves and writes here.
 fn proved(root: &Path) -> PathBuf {
-    match Command::new("rt").args(["staticlib", "gurthapen"]).current_dir(root).output() {
-        Err(e) => stop(&format!(
-            "libgurthapen.a is proved and built by the Rattle kit, and its command `rt` cannot be run ({e}). Put the kit's bin folder on the PATH; \
-             the repository's README.md, \"Set-up\", says which kit"
-        )),
+    match Command::new(root.join("bindings/archive")).output() {
+        Err(e) => stop(&format!("bindings/archive, which has libgurthapen.a proved and built, cannot be run ({e})")),
         Ok(done) if !done.status.success() => {
-            eprintln!("{}{}", String::from_utf8_lossy(&done.stdout), String::from_utf8_lossy(&done.stderr));
-            stop("`rt staticlib gurthapen` failed, so there is nothing to link: what it said stands above")
+            eprintln!("{}", String::from_utf8_lossy(&done.stderr));
+            stop("bindings/archive failed, so there is nothing to link: what it said stands above")
         }
-        Ok(_) => root.join("target/staticlib"),
+        Ok(done) => PathBuf::from(String::from_utf8_lossy(&done.stdout).trim_end()),
     }
 }
 
