@@ -1,0 +1,10 @@
+-- `lister_answer::decide::decide_numbers`: by whether the numbers are of the domain. Assumes nothing.
+use mathlib.Core.Path.{sym, ◌∙◌}
+use Rattle.lister_answer.proofs.Decisions.{decision_outside}
+use Rattle.lister_answer.proofs.decide.decide_numbers.Goals as goal
+
+pub returns : goal.returns
+returns c =
+    let e = c in
+    rw (e.requires.1, e.requires.2, e.requires.3) (c.none.ensures ∙ decision_outside e.args.q e.args.s.now
+    (sym c.numbers_ok.ensures ∙ c.if-numbers_ok.false))

@@ -1,0 +1,13 @@
+-- `lister_answer::lines::last_two`: a field, and what `last` writes after it. Assumes nothing.
+use mathlib.Core.List.{[], ◌∷◌}
+use mir.Facts.{to_z-of_z}
+use Rattle.lister_answer.proofs.AnswerLines.{put-field}
+use Rattle.text.specs.Written.{signed_of}
+use Rattle.lister_answer.proofs.lines.last_two.Goals as goal
+
+pub returns : goal.returns
+returns c =
+    let at-signed-field = c in
+    let start = at-signed-field in
+    put-field 12 13 (signed_of start.args.y) (signed_of start.args.z ∷ []) (rw (to_z-of_z start.ranges.y) at at-signed-field.signed_field-a.ensures)
+    (rw (to_z-of_z start.ranges.z) at c.last.ensures)
