@@ -7,7 +7,7 @@ use native.Mathlib.Omega.{arith}
 use lib.Dec.{lit<, lit≤}
 use lib.IntN.{ℤ, pos, negsuc, nat_abs}
 use lib.Pow.{pow_pos}
-use lib.Ieee.{Float, fin, binary32, div, down, of_bits, of_int, round, up}
+use lib.Ieee.{Float, nan, inf, fin, binary32, div, down, of_bits, of_int, round, up}
 use lib.Ieee.Exact.{HasValue, round_exact}
 use lib.Ieee.Fits.{down_pos}
 use lib.Ieee.Scale.{round_same}
@@ -37,6 +37,8 @@ divided (fin false m e) false n v =
     round_same binary32 false (m * up e * 1) (1 * 256 * down e) n 256 (mul-pos (lit< tt) (down_pos e)) (lit< tt) (scaled m (up e) n (down e) v.1)
 divided (fin true m e) false n v = absurd (true≢false v.0)
 divided (fin false m e) true n v = absurd (false≢true v.0)
+divided nan s n v = elim v [ ]
+divided (inf _) s n v = elim v [ ]
 
 -- the worker's division
 pub in_256ths-is : (z : ℤ) → nat_abs z ≤ 32768 → div binary32 (of_int binary32 z) (of_bits binary32 1132462080) ≡ in256ths z

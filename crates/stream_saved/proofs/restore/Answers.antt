@@ -9,5 +9,4 @@ returns-then-s-gt390 c = c.refused.ensures ∙ sym (long-malformed c.args.s.now 
 
 pub returns-else-count-eq44 : goal.returns-else-count-eq44
 returns-else-count-eq44 c =
-    let n = c in
-    c.refused-else-count-eq44.ensures ∙ malformed n.args.s.now (λ e. c.if-count-eq44.false (n.count.ensures ∙ e))
+    c.refused-else-count-eq44.ensures ∙ malformed c.args.s.now (λ e. c.if-count-eq44.false (c.count.ensures ∙ e))

@@ -11,16 +11,14 @@ use Rattle.stream_saved.proofs.reads.energies.Goals as goal
 pub loop-k-preserved : goal.loop-k-preserved
 loop-k-preserved c =
     let l = c.loop-k in
-    let p = c in
-    let s = p.args.s.now in (
+    let s = c.args.s.now in (
       omega arith,
-      ap (λ (f : Fields). read_from f (l.k + 1) (drop (l.k + 1) (said s p.args.letter))) c.read_one-f.ensures
-          ∙ read_next s p.args.letter p.requires l.f l.k (omega arith) c.energy_at-v.ensures ∙ l.invariant.1,
+      ap (λ (f : Fields). read_from f (l.k + 1) (drop (l.k + 1) (said s c.args.letter))) c.read_one-f.ensures
+          ∙ read_next s c.args.letter c.requires l.f l.k (omega arith) c.energy_at-v.ensures ∙ l.invariant.1,
     )
 
 pub returns : goal.returns
 returns c =
     let l = c.loop-k in
-    let p = c in
-    let n = said-length p.args.s.now p.args.letter p.requires in
-    read_none l.f l.k (said p.args.s.now p.args.letter) (omega arith) ∙ l.invariant.1
+    let n = said-length c.args.s.now c.args.letter c.requires in
+    read_none l.f l.k (said c.args.s.now c.args.letter) (omega arith) ∙ l.invariant.1

@@ -4,6 +4,5 @@ use Rattle.stream_saved.proofs.reads.line.Goals as goal
 
 pub returns : goal.returns
 returns c =
-    let p = c in
-    line-answers p.args.s.now p.requires c.number_at-n.ensures c.letter_at-letter.ensures
+    line-answers c.args.s.now c.requires c.number_at-n.ensures c.letter_at-letter.ensures
     c.energies-f.ensures c.answer.ensures

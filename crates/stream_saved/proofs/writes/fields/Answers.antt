@@ -12,18 +12,15 @@ loop-k-init c = let a = c.args in (omega arith, refl, put-none a.e.now a.buf.now
 
 pub field-to-requires : goal.field-to-requires
 field-to-requires c =
-    let p = c in
     let l = c.loop-k in
     let w = l.invariant.2 in
-    (omega (arith, w.short), every-at finite p.args.e.now nan p.requires.2 l.k (omega arith))
+    (omega (arith, w.short), every-at finite c.args.e.now nan c.requires.2 l.k (omega arith))
 
 pub loop-k-preserved : goal.loop-k-preserved
 loop-k-preserved c =
-    let at-loop = c in
-    let p = at-loop in
-    let l = at-loop.loop-k in (
+    let l = c.loop-k in (
       omega arith,
       c.field-to.auto.buf ∙ l.invariant.1,
-      put_next p.args.e.now p.args.buf.now p.args.at l.k (omega arith)
+      put_next c.args.e.now c.args.buf.now c.args.at l.k (omega arith)
           l.invariant.2 c.field-to.ensures,
     )

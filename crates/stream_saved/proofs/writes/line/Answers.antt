@@ -4,7 +4,4 @@ use Rattle.stream_saved.proofs.writes.line.Goals as goal
 
 pub returns : goal.returns
 returns c =
-    let f = c in
-    let d = f in
-    let p = d in
-    put-line p.args.rec p.args.buf.now d.decimal_field-at.ensures f.fields.ensures
+    put-line c.args.rec c.args.buf.now c.decimal_field-at.ensures c.fields.ensures
