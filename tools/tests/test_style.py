@@ -45,6 +45,10 @@ class Comments(unittest.TestCase):
     def test_a_fixity_may_stand_between(self):
         self.assertEqual(lines("crates/a/specs/A.antt", "-- and\ninfixr 20 ◌&◌\npub ◌&◌ : N\n◌&◌ = x\n"), [])
 
+    def test_what_is_opened_may_stand_between(self):
+        text = "module _ (l : L) where\n  -- one\n  open l use {H}\n\n  pub one : N\n  one = x\n\n  pub two : N\n  two = x\n"
+        self.assertEqual(lines("crates/a/proofs/A.antt", text), [8])
+
     def test_sources(self):
         text = "// One.\n#[unsafe(no_mangle)]\npub extern \"C\" fn one() {}\n\npub fn two() {}\nfn three() {}\n\n"
         text += "// A kind.\npub enum Kind {\n    A,\n}\nimpl Kind {\n    pub fn four() {}\n}\n"
