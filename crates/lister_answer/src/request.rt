@@ -37,6 +37,7 @@ fn total(s: &[u8], bytes: usize) -> Whole
 }
 
 // A request of six numbers, malformed where one of them is none.
+#[tactic(auto, unfolding(crate::specs::Request::asks_of))]
 fn asks(c: Whole, lm: Whole, start: Whole, end: Whole, trim: Whole, total: Whole) -> Parsed
     ensures { result ≡ asks_of c lm start end trim total }
 {

@@ -13,18 +13,14 @@ decide-d-requires c = (refl, refl, refl)
 
 pub write_allocation-requires : goal.write_allocation-requires
 write_allocation-requires c =
-    let at-decide = c in
-    let e = at-decide in
-    let d = at-decide.decide-d in
-    let b = line-bands e.args.line.now in
+    let d = c.decide-d in
+    let b = line-bands c.args.line.now in
     let f = ap (λ (x : Decision). x.start) d.ensures in
-    let g = ap (λ (x : Decision). x.end) d.ensures in record { start_le_end = (omega (arith, f, g, b.0), omega (arith, g, b.1), e.requires); pulses_len = (d.auto.pulses, d.auto.fine, d.auto.priorities) }
+    let g = ap (λ (x : Decision). x.end) d.ensures in record { start_le_end = (omega (arith, f, g, b.0), omega (arith, g, b.1), c.requires); pulses_len = (d.auto.pulses, d.auto.fine, d.auto.priorities) }
 
 pub returns : goal.returns
 returns c =
-    let at-decide = c in
-    let start = at-decide in
-    let a = start.args in
-    put_as 1200 1200 (omega arith) (ap (λ (x : Decision). listing_of_decision a.number x) at-decide.decide-d.ensures ∙ decision-listing a.number
+    let a = c.args in
+    put_as 1200 1200 (omega arith) (ap (λ (x : Decision). listing_of_decision a.number x) c.decide-d.ensures ∙ decision-listing a.number
     a.line.now)
     c.write_allocation.ensures

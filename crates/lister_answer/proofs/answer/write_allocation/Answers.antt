@@ -8,11 +8,8 @@ use Rattle.lister_answer.proofs.answer.write_allocation.Goals as goal
 
 pub returns-in-Done : goal.returns-in-Done
 returns-in-Done c =
-    let at_head = c in
-    let at-r = at_head in
-    let start = at-r in
-    let a = start.args in
+    let a = c.args in
     let l = lists a.pulses.now a.fine.now a.priorities.now in
-    rw at-r.r-1.given.1
-    (put-head-bands 61 (49 * (a.end - a.start)) (head_line a.number at-r.r-1.given.0.0) (band_lines a.start (a.end - a.start) l) (omega arith)
-    at_head.head-at.ensures c.bands.ensures)
+    rw c.in-Done.is
+    (put-head-bands 61 (49 * (a.end - a.start)) (head_line a.number c.in-Done.y) (band_lines a.start (a.end - a.start) l) (omega arith)
+    c.head-at.ensures c.bands.ensures)

@@ -5,6 +5,7 @@ use native.Mathlib.Omega.{arith}
 use lib.IntN.{pos}
 use mir.Syntax.{w32}
 use mir.Facts.{to_z-of_z}
+use borrow.Author.Rules.{rules}
 use Rattle.laws.specs.Lists.{fill}
 use Rattle.rate.specs.Question.{no_entries}
 use Rattle.lister_answer.proofs.CapLaws.{caps-none, caps-up}
@@ -21,7 +22,7 @@ loop-j-preserved c =
     let l = c.loop-j in (
       omega arith,
       caps-up c.args.c c.args.lm l.j l.invariant.1
-          (to_z-of_z {w = w32} (record { sfits = c.cap.type-inv }) ∙ c.cap.ensures),
+          (to_z-of_z {w = w32} (search rules) ∙ c.cap.ensures),
     )
 
 pub returns : goal.returns

@@ -4,6 +4,7 @@ use native.Mathlib.Omega.{arith}
 use mir.Syntax.{w32}
 use mir.Val.{SFits}
 use mir.Facts.{to_z-of_z}
+use borrow.Author.Rules.{rules}
 use Rattle.laws.specs.Signs.{clip}
 use Rattle.rate.specs.Question.{alloc_counts, no_entries}
 use Rattle.rate.proofs.Accepts.{counts-ok}
@@ -16,9 +17,8 @@ pub caps-limits-requires : goal.caps-limits-requires
 unfolding alloc_counts
 caps-limits-requires c =
     let q = c.args.q in
-    let g = c.struct_told-2-1.given in
-    let fc : SFits w32 q.c = record { sfits = g.0.1 } in
-    let flm : SFits w32 q.lm = record { sfits = g.1.0.1 } in
+    let fc : SFits w32 q.c = search rules in
+    let flm : SFits w32 q.lm = search rules in
     let e : c.clipped.result ≡ clip q.c = rw (to_z-of_z fc) at c.clipped.ensures.0 in
     let h : c.clipped-2.result ≡ clip q.lm = rw (to_z-of_z flm) at c.clipped-2.ensures.0 in
     let f = counts-ok q c.requires.0 in
@@ -27,22 +27,16 @@ caps-limits-requires c =
 pub returns : goal.returns
 unfolding no_entries
 returns c =
-    let at-clt-compute-allocation-read = c in
-    let at-caps = at-clt-compute-allocation-read in
-    let at-clipped2 = at-caps in
-    let at-clipped = at-clipped2 in
-    let b = at-clipped in
-    let a = b.args in
+    let a = c.args in
     let q = a.q in
-    let g = c.struct_told-4-1.given in
-    let fc : SFits w32 q.c = record { sfits = g.0.1 } in
-    let flm : SFits w32 q.lm = record { sfits = g.1.0.1 } in
-    let fstart : SFits w32 q.start = record { sfits = g.1.1.0.1 } in
-    let fend : SFits w32 q.end = record { sfits = g.1.1.1.0.1 } in
+    let fc : SFits w32 q.c = search rules in
+    let flm : SFits w32 q.lm = search rules in
+    let fstart : SFits w32 q.start = search rules in
+    let fend : SFits w32 q.end = search rules in
     let e : c.clipped-start.result ≡ clip q.start = rw (to_z-of_z fstart) at c.clipped-start.ensures.0 in
     let h : c.clipped-end.result ≡ clip q.end = rw (to_z-of_z fend) at c.clipped-end.ensures.0 in
-    let j : at-clipped.clipped.result ≡ clip q.c = rw (to_z-of_z fc) at at-clipped.clipped.ensures.0 in
-    let k : at-clipped2.clipped-2.result ≡ clip q.lm = rw (to_z-of_z flm) at at-clipped2.clipped-2.ensures.0 in
-    let m : at-caps.caps-limits.result ≡ caps_of (clip q.c) (clip q.lm) = at-caps.caps-limits.ensures ∙ rw (j, k) in
-    decision_in_domain q a.s.now a.d b.requires.0 e h (allocated-is q a.s.now a.d m
-    (rw (b.requires.1, b.requires.2, b.requires.3) at at-clt-compute-allocation-read.clt_compute_allocation_read-said.ensures))
+    let j : c.clipped.result ≡ clip q.c = rw (to_z-of_z fc) at c.clipped.ensures.0 in
+    let k : c.clipped-2.result ≡ clip q.lm = rw (to_z-of_z flm) at c.clipped-2.ensures.0 in
+    let m : c.caps-limits.result ≡ caps_of (clip q.c) (clip q.lm) = c.caps-limits.ensures ∙ rw (j, k) in
+    decision_in_domain q a.s.now a.d c.requires.0 e h (allocated-is q a.s.now a.d m
+    (rw (c.requires.1, c.requires.2, c.requires.3) at c.clt_compute_allocation_read-said.ensures))

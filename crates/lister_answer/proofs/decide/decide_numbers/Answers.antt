@@ -5,6 +5,5 @@ use Rattle.lister_answer.proofs.decide.decide_numbers.Goals as goal
 
 pub returns : goal.returns
 returns c =
-    let e = c in
-    rw (e.requires.1, e.requires.2, e.requires.3) (c.none.ensures ∙ decision_outside e.args.q e.args.s.now
+    rw (c.requires.1, c.requires.2, c.requires.3) (c.none.ensures ∙ decision_outside c.args.q c.args.s.now
     (sym c.numbers_ok.ensures ∙ c.if-numbers_ok.false))

@@ -6,25 +6,19 @@ use Rattle.lister_answer.proofs.decide.decide_request.Goals as goal
 
 pub numbers-requires : goal.numbers-requires
 numbers-requires c =
-    let e = c in
-    let w = packet-length e.args.line.now e.args.packet.now e.requires.0 e.requires.1 in
+    let w = packet-length c.args.line.now c.args.packet.now c.requires.0 c.requires.1 in
     (w.most, w.half)
 
 pub decide_packet-requires : goal.decide_packet-requires
 decide_packet-requires c =
-    let e = c in
-    let w = packet-length e.args.line.now e.args.packet.now e.requires.0 e.requires.1 in (w.most, e.requires.2, e.requires.3, e.requires.4)
+    let w = packet-length c.args.line.now c.args.packet.now c.requires.0 c.requires.1 in (w.most, c.requires.2, c.requires.3, c.requires.4)
 
 pub returns-in-Asks : goal.returns-in-Asks
 returns-in-Asks c =
-    let at-q = c in
-    let at-numbers = at-q in
-    let e = at-numbers in
-    c.decide_packet.ensures ∙ decision-asks e.args.line.now e.requires.0 e.requires.1 at-numbers.numbers.ensures
-    at-q.q-1.given.1
+    c.decide_packet.ensures ∙ decision-asks c.args.line.now c.requires.0 c.requires.1 c.numbers.ensures
+    c.in-Asks.is
 
 pub returns-in-Malformed : goal.returns-in-Malformed
 returns-in-Malformed c =
-    let e = c in
-    rw (e.requires.2, e.requires.3, e.requires.4) (c.none.ensures ∙ decision-malformed e.args.line.now e.requires.0 c.numbers.ensures
-    c.enum_told-1.given.1)
+    rw (c.requires.2, c.requires.3, c.requires.4) (c.none.ensures ∙ decision-malformed c.args.line.now c.requires.0 c.numbers.ensures
+    c.in-Malformed.is)

@@ -7,9 +7,7 @@ use Rattle.lister_answer.proofs.lines.band.Goals as goal
 
 pub returns : goal.returns
 returns c =
-    let at-begin = c in
-    let start = at-begin in
-    let a = start.args in
-    let f = start.ranges in
-    put-line 12 37 66 (decimal_of a.j) (signed_of a.pulses ∷ signed_of a.fine ∷ signed_of a.priority ∷ []) at-begin.begin-a.ensures
+    let a = c.args in
+    let f = c.ranges in
+    put-line 12 37 66 (decimal_of a.j) (signed_of a.pulses ∷ signed_of a.fine ∷ signed_of a.priority ∷ []) c.begin-a.ensures
     (rw (to_z-of_z f.pulses, to_z-of_z f.fine, to_z-of_z f.priority) at c.last_three.ensures)

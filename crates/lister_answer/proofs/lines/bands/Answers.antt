@@ -1,7 +1,11 @@
 -- `lister_answer::lines::bands`: the invariant: the lines from band j on, written from here on, give what all lines give. Assumes nothing.
 use native.Mathlib.Omega.{arith}
 use mir.Syntax.{w32}
+use lib.IntN.{pos}
+use lib.ListN.{get_or}
+use mir.Val.{SFits}
 use mir.Facts.{to_z-of_z}
+use borrow.Author.Rules.{rules}
 use Rattle.lister_answer.proofs.AnswerLines.{bands-next, bands-done}
 use Rattle.rate.specs.Question.{lists}
 use Rattle.lister_answer.specs.Lines.{band_line}
@@ -10,25 +14,16 @@ use Rattle.lister_answer.proofs.lines.bands.Goals as goal
 pub loop-j-preserved : goal.loop-j-preserved
 unfolding band_line
 loop-j-preserved c =
-    let at-k = c in
-    let at_f = at-k in
-    let at_p = at_f in
-    let at-loop-test = at_p in
-    let at-loop = at-loop-test in
-    let start-2 = at-loop in
-    let a = start-2.args in
-    let l = at-loop.loop-j in (
+    let a = c.args in
+    let l = c.loop-j in
+    let p : SFits w32 (get_or a.pulses.now l.j (pos 0)) = search rules in
+    let f : SFits w32 (get_or a.fine.now l.j (pos 0)) = search rules in
+    let k : SFits w32 (get_or a.priorities.now l.j (pos 0)) = search rules in (
       omega arith,
       omega arith,
-      bands-next (lists a.pulses.now a.fine.now a.priorities.now) a.end a.start a.at a.buf.now l.j l.to l.buf
-          at-loop-test.loop-j-test.true
+      bands-next (lists a.pulses.now a.fine.now a.priorities.now) a.end a.start a.at a.buf.now l.j l.to l.buf c.loop-j-test.true
           l.invariant.2 c.band-to.auto.buf
-          (rw (
-            to_z-of_z {w = w32} (record { sfits = at_p.p-1.given }),
-            to_z-of_z {w = w32} (record { sfits = at_f.f-1.given }),
-            to_z-of_z {w = w32}
-                (record { sfits = at-k.k-1.given }),
-          ) at c.band-to.ensures),
+          (rw (to_z-of_z p, to_z-of_z f, to_z-of_z k) at c.band-to.ensures),
     )
 
 pub returns : goal.returns

@@ -3,6 +3,7 @@ use mathlib.Core.List.{[], ◌∷◌}
 use mir.Val.{SFits}
 use mir.Syntax.{w32}
 use mir.Facts.{to_z-of_z}
+use borrow.Author.Rules.{rules}
 use Rattle.lister_answer.proofs.AnswerLines.{put-line}
 use Rattle.lister_answer.specs.Lines.{head_line}
 use Rattle.text.specs.Written.{decimal_of, signed_of}
@@ -11,15 +12,12 @@ use Rattle.lister_answer.proofs.lines.head.Goals as goal
 pub returns : goal.returns
 unfolding head_line
 returns c =
-    let at-begin = c in
-    let start = at-begin in
-    let a = start.args in
+    let a = c.args in
     let y = a.y in
-    let g = c.struct_told-4-1.given in
-    let fc : SFits w32 y.coded = record { sfits = g.0.1 } in
-    let fb : SFits w32 y.balance = record { sfits = g.1.0.1 } in
-    let fi : SFits w32 y.intensity = record { sfits = g.1.1.0.1 } in
-    let fd : SFits w32 y.dual = record { sfits = g.1.1.1.0.1 } in
+    let fc : SFits w32 y.coded = search rules in
+    let fb : SFits w32 y.balance = search rules in
+    let fi : SFits w32 y.intensity = search rules in
+    let fd : SFits w32 y.dual = search rules in
     put-line 12 49 82 (decimal_of a.number) (signed_of y.coded ∷ signed_of y.balance ∷ signed_of y.intensity ∷ signed_of y.dual ∷ [])
-    at-begin.begin-a.ensures
+    c.begin-a.ensures
     (rw (to_z-of_z fc, to_z-of_z fb, to_z-of_z fi, to_z-of_z fd) at c.last_four.ensures)

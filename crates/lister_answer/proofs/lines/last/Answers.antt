@@ -7,6 +7,4 @@ use Rattle.lister_answer.proofs.lines.last.Goals as goal
 
 pub returns : goal.returns
 returns c =
-    let at-signed-field = c in
-    let start = at-signed-field in
-    put-field 12 1 (signed_of start.args.z) [] (rw (to_z-of_z start.ranges.z) at at-signed-field.signed_field-a.ensures) c.feed.ensures
+    put-field 12 1 (signed_of c.args.z) [] (rw (to_z-of_z c.ranges.z) at c.signed_field-a.ensures) c.feed.ensures

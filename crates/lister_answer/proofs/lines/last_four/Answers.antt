@@ -7,8 +7,6 @@ use Rattle.lister_answer.proofs.lines.last_four.Goals as goal
 
 pub returns : goal.returns
 returns c =
-    let at-signed-field = c in
-    let start = at-signed-field in
-    put-field 12 37 (signed_of start.args.w) (signed_of start.args.x ∷ signed_of start.args.y ∷ signed_of start.args.z ∷ [])
-    (rw (to_z-of_z start.ranges.w) at at-signed-field.signed_field-a.ensures)
-    (rw (to_z-of_z start.ranges.x, to_z-of_z start.ranges.y, to_z-of_z start.ranges.z) at c.last_three.ensures)
+    put-field 12 37 (signed_of c.args.w) (signed_of c.args.x ∷ signed_of c.args.y ∷ signed_of c.args.z ∷ [])
+    (rw (to_z-of_z c.ranges.w) at c.signed_field-a.ensures)
+    (rw (to_z-of_z c.ranges.x, to_z-of_z c.ranges.y, to_z-of_z c.ranges.z) at c.last_three.ensures)

@@ -7,8 +7,6 @@ use Rattle.lister_answer.proofs.lines.last_three.Goals as goal
 
 pub returns : goal.returns
 returns c =
-    let at-signed-field = c in
-    let start = at-signed-field in
-    put-field 12 25 (signed_of start.args.x) (signed_of start.args.y ∷ signed_of start.args.z ∷ [])
-    (rw (to_z-of_z start.ranges.x) at at-signed-field.signed_field-a.ensures)
-    (rw (to_z-of_z start.ranges.y, to_z-of_z start.ranges.z) at c.last_two.ensures)
+    put-field 12 25 (signed_of c.args.x) (signed_of c.args.y ∷ signed_of c.args.z ∷ [])
+    (rw (to_z-of_z c.ranges.x) at c.signed_field-a.ensures)
+    (rw (to_z-of_z c.ranges.y, to_z-of_z c.ranges.z) at c.last_two.ensures)

@@ -7,7 +7,5 @@ use Rattle.lister_answer.proofs.lines.last_two.Goals as goal
 
 pub returns : goal.returns
 returns c =
-    let at-signed-field = c in
-    let start = at-signed-field in
-    put-field 12 13 (signed_of start.args.y) (signed_of start.args.z ∷ []) (rw (to_z-of_z start.ranges.y) at at-signed-field.signed_field-a.ensures)
-    (rw (to_z-of_z start.ranges.z) at c.last.ensures)
+    put-field 12 13 (signed_of c.args.y) (signed_of c.args.z ∷ []) (rw (to_z-of_z c.ranges.y) at c.signed_field-a.ensures)
+    (rw (to_z-of_z c.ranges.z) at c.last.ensures)

@@ -8,9 +8,6 @@ use Rattle.lister_answer.proofs.lines.refused.Goals as goal
 pub returns : goal.returns
 unfolding refused_line
 returns c =
-    let at-decimal-field = c in
-    let at-begin = at-decimal-field in
-    let start = at-begin in
-    let a = start.args in
-    put-line 12 12 88 (decimal_of a.number) (decimal_of a.why ∷ []) at-begin.begin-a.ensures
-    (put-field 11 1 (decimal_of a.why) [] at-decimal-field.decimal_field-b.ensures c.feed.ensures)
+    let a = c.args in
+    put-line 12 12 88 (decimal_of a.number) (decimal_of a.why ∷ []) c.begin-a.ensures
+    (put-field 11 1 (decimal_of a.why) [] c.decimal_field-b.ensures c.feed.ensures)

@@ -12,19 +12,12 @@ returns-then-count-ne7 c = packet-fields c.args.s.now c.args.out.now
 
 pub returns-then-bytes : goal.returns-then-bytes
 returns-then-bytes c =
-    let at_field = c in
-    let at-if2 = at_field in
-    let at_count = at-if2 in
-    let at-if1 = at_count in
-    let start = at-if1 in
-    let a = start.args in
-    packet_good a.s.now a.out.now start.requires at-if1.if-s-gt2600.false at_count.count.ensures at-if2.if-count-ne7.false at_field.field-p.ensures.bytes
+    let a = c.args in
+    packet_good a.s.now a.out.now c.requires c.if-s-gt2600.false c.count.ensures c.if-count-ne7.false c.field-p.ensures.bytes
     c.bytes.ensures
-    c.if-bytes.true (field-length a.s.now 6 at_field.field-p.ensures)
+    c.if-bytes.true (field-length a.s.now 6 c.field-p.ensures)
 
 pub returns : goal.returns
 returns c =
-    let at_field = c in
-    let start = at_field in
-    let a = start.args in
-    packet_bad a.s.now a.out.now start.requires at_field.field-p.ensures.bytes c.bytes.ensures c.if-bytes.false
+    let a = c.args in
+    packet_bad a.s.now a.out.now c.requires c.field-p.ensures.bytes c.bytes.ensures c.if-bytes.false
