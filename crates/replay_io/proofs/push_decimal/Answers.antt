@@ -7,8 +7,6 @@ use Rattle.replay_io.proofs.push_decimal.Goals as goal
 
 pub returns : goal.returns
 returns c =
-    let at-decimal = c in
-    let start = at-decimal in
-    let a = start.args in
+    let a = c.args in
     c.push_all.ensures
-    ∙ ap (appended (length a.out.now) (take a.n a.out.now)) (placed_first 10 (decimal_of a.v) at-decimal.decimal-count.ensures (search rules))
+    ∙ ap (appended (length a.out.now) (take a.n a.out.now)) (placed_first 10 (decimal_of a.v) c.decimal-count.ensures (search rules))

@@ -10,21 +10,16 @@ loop-i-init c =
 
 pub loop-i-preserved : goal.loop-i-preserved
 loop-i-preserved c =
-    let at_push = c in
-    let at-glyph = at_push in
-    let at-loop-test = at-glyph in
-    let at-loop = at-loop-test in
-    let start = at-loop in
-    let a = start.args in
-    let l = at-loop.loop-i in
-    let h = at-loop-test.loop-i-test.true in
-    let p = at_push.push-k in
+    let a = c.args in
+    let l = c.loop-i in
+    let h = c.loop-i-test.true in
+    let p = c.push-k in
     let q = c.push-k-in-loop-i in
     let e = p.auto.out ∙ l.invariant.1 in (
       omega arith,
       q.auto.out ∙ e,
       hex-more (length a.out.now) (take a.n a.out.now) a.s.now l.i h l.invariant.1 e l.invariant.2
-          at-glyph.glyph.ensures
+          c.glyph.ensures
           c.glyph-in-loop-i.ensures
           p.ensures
           q.ensures,
