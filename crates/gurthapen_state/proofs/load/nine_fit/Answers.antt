@@ -9,20 +9,14 @@ use Rattle.gurthapen_state.proofs.load.nine_fit.Goals as goal
 pub returns : goal.returns
 unfolding firsts
 returns c =
-    let at-fits-at5 = c in
-    let at-fits-at4 = at-fits-at5 in
-    let at-fits-at3 = at-fits-at4 in
-    let at-fits-at2 = at-fits-at3 in
-    let at-fits-at = at-fits-at2 in
-    let p = at-fits-at in
     rw (
-      at-fits-at.fits_at.ensures,
-      at-fits-at2.fits_at-2.ensures,
-      at-fits-at3.fits_at-3.ensures,
-      at-fits-at4.fits_at-4.ensures,
-      at-fits-at5.fits_at-5.ensures,
+      c.fits_at.ensures,
+      c.fits_at-2.ensures,
+      c.fits_at-3.ensures,
+      c.fits_at-4.ensures,
+      c.fits_at-5.ensures,
       c.fits_at-6.ensures,
       c.fits_at-7.ensures,
       c.fits_at-8.ensures,
       c.fits_at-9.ensures,
-    ) (sym (every_first is_count (pos 0) 8 p.args.state.now (omega (arith, p.requires))))
+    ) (sym (every_first is_count (pos 0) 8 c.args.state.now (omega (arith, c.requires))))

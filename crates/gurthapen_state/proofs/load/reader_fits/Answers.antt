@@ -8,5 +8,4 @@ use Rattle.gurthapen_state.proofs.load.reader_fits.Goals as goal
 
 pub returns : goal.returns
 returns c =
-    let p = c in
-    rw (c.nine_fit.ensures, c.fits_at.ensures) (sym (every-last is_count (pos 0) 9 p.args.state.now (omega (arith, p.requires))))
+    rw (c.nine_fit.ensures, c.fits_at.ensures) (sym (every-last is_count (pos 0) 9 c.args.state.now (omega (arith, c.requires))))

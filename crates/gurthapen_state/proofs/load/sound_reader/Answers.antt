@@ -13,11 +13,11 @@ use Rattle.gurthapen_state.proofs.load.sound_reader.Goals.{Start}
 
 -- `gurthapen_state::load::sound_reader`: number by number. Assumes nothing.
 -- each count fits
-fit : (p : Start) (i : ℕ) → i < 10 → let l = p.args.state.now in (i < length l) × (is_count (entry l i) ≡ true)
+fit : (p : Start) (i : ℕ) → i < 10 → let l = p.args.state.now in record { i_in_bounds : i < length l; i_value : is_count (entry l i) ≡ true }
 fit p i h =
     let l = p.args.state.now in
-    let g : i < length l = omega (arith, p.requires.0) in
-    (g, first-at is_count (pos 0) 10 i l h g p.requires.1)
+    let g : i < length l = omega (arith, p.requires.state_len) in
+    record { i_in_bounds = g; i_value = first-at is_count (pos 0) 10 i l h g p.requires.state_value }
 
 pub fit_at-requires : goal.fit_at-requires
 fit_at-requires c = fit (goal.at.fit_at-requires c).Start 0 (lit< tt)
@@ -45,36 +45,26 @@ fit_at-requires-8 c = fit (goal.at.fit_at-requires-8 c).Start 7 (lit< tt)
 
 pub fit_at-requires-9 : goal.fit_at-requires-9
 fit_at-requires-9 c =
-    let here = c in
     fit (goal.at.fit_at-requires-9 c).Start 8 (lit< tt)
 
 pub fit_at-requires-10 : goal.fit_at-requires-10
 fit_at-requires-10 c =
-    let here = c in
     fit (goal.at.fit_at-requires-10 c).Start 9 (lit< tt)
 
 pub returns : goal.returns
 unfolding reader_of range_of
 returns c =
-    let at-fit-at7 = c in
-    let at-fit-at6 = at-fit-at7 in
-    let at-fit-at5 = at-fit-at6 in
-    let at-fit-at4 = at-fit-at5 in
-    let at-fit-at3 = at-fit-at4 in
-    let at-fit-at2 = at-fit-at3 in
-    let at-fit-at = at-fit-at2 in
-    let start = at-fit-at in
     rw (
-      at-fit-at.fit_at.ensures,
-      at-fit-at2.fit_at-2.ensures,
-      at-fit-at3.fit_at-3.ensures,
-      at-fit-at4.fit_at-4.ensures,
-      at-fit-at5.fit_at-5.ensures,
-      at-fit-at6.fit_at-6.ensures,
-      at-fit-at7.fit_at-7.ensures,
+      c.fit_at.ensures,
+      c.fit_at-2.ensures,
+      c.fit_at-3.ensures,
+      c.fit_at-4.ensures,
+      c.fit_at-5.ensures,
+      c.fit_at-6.ensures,
+      c.fit_at-7.ensures,
       c.fit_at-8.ensures,
       c.fit_at-9.ensures,
       c.fit_at-10.ensures,
       c.mark_at.ensures,
-      start.requires.state_value,
+      c.requires.state_value,
     )

@@ -13,11 +13,11 @@ use Rattle.gurthapen_state.proofs.load.sound_writer.Goals.{Start}
 
 -- `gurthapen_state::load::sound_writer`: number by number. Assumes nothing.
 -- each count fits
-fit : (p : Start) (i : ℕ) → i < 9 → let l = p.args.state.now in (i < length l) × (is_count (entry l i) ≡ true)
+fit : (p : Start) (i : ℕ) → i < 9 → let l = p.args.state.now in record { i_in_bounds : i < length l; i_value : is_count (entry l i) ≡ true }
 fit p i h =
     let l = p.args.state.now in
-    let g : i < length l = omega (arith, p.requires.0) in
-    (g, first-at is_count (pos 0) 9 i l h g ((and-eq-true_iff _ _).0 p.requires.1).0)
+    let g : i < length l = omega (arith, p.requires.state_len) in
+    record { i_in_bounds = g; i_value = first-at is_count (pos 0) 9 i l h g ((and-eq-true_iff _ _).0 p.requires.state_value).0 }
 
 pub fit_at-requires : goal.fit_at-requires
 fit_at-requires c = fit (goal.at.fit_at-requires c).Start 0 (lit< tt)
@@ -39,43 +39,31 @@ fit_at-requires-6 c = fit (goal.at.fit_at-requires-6 c).Start 6 (lit< tt)
 
 pub fit_at-requires-7 : goal.fit_at-requires-7
 fit_at-requires-7 c =
-    let here = c in
     fit (goal.at.fit_at-requires-7 c).Start 4 (lit< tt)
 
 pub fit_at-requires-8 : goal.fit_at-requires-8
 fit_at-requires-8 c =
-    let here = c in
     fit (goal.at.fit_at-requires-8 c).Start 2 (lit< tt)
 
 pub fit_at-requires-9 : goal.fit_at-requires-9
 fit_at-requires-9 c =
-    let here = c in
     fit (goal.at.fit_at-requires-9 c).Start 3 (lit< tt)
 
 pub returns : goal.returns
 unfolding writer_of range_of
 returns c =
-    let at-fit-at6 = c in
-    let at-fit-at5 = at-fit-at6 in
-    let at-fit-at4 = at-fit-at5 in
-    let at-held-at = at-fit-at4 in
-    let at-mark-at = at-held-at in
-    let at-fit-at3 = at-mark-at in
-    let at-fit-at2 = at-fit-at3 in
-    let at-fit-at = at-fit-at2 in
-    let start = at-fit-at in
     rw (
-      at-fit-at.fit_at.ensures,
-      at-fit-at2.fit_at-2.ensures,
-      at-fit-at3.fit_at-3.ensures,
-      at-mark-at.mark_at.ensures,
-      at-held-at.held_at.ensures,
-      at-fit-at4.fit_at-4.ensures,
-      at-fit-at5.fit_at-5.ensures,
-      at-fit-at6.fit_at-6.ensures,
+      c.fit_at.ensures,
+      c.fit_at-2.ensures,
+      c.fit_at-3.ensures,
+      c.mark_at.ensures,
+      c.held_at.ensures,
+      c.fit_at-4.ensures,
+      c.fit_at-5.ensures,
+      c.fit_at-6.ensures,
       c.fit_at-7.ensures,
       c.fit_at-8.ensures,
       c.fit_at-9.ensures,
       c.mark_at-2.ensures,
-      start.requires.state_value,
+      c.requires.state_value,
     )

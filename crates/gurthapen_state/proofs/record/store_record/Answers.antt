@@ -6,5 +6,4 @@ use Rattle.gurthapen_state.proofs.record.store_record.Goals as goal
 
 pub returns : goal.returns
 returns c =
-    let p = c in
-    rw (c.copy.ensures, all_set (p.args.rec.next ∷ []) p.args.next.now (sym p.requires.1))
+    rw (c.copy.ensures, all_set (c.args.rec.next ∷ []) c.args.next.now (sym c.requires.1))

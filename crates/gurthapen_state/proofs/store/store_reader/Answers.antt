@@ -6,9 +6,8 @@ use Rattle.gurthapen_state.proofs.store.store_reader.Goals as goal
 pub returns : goal.returns
 unfolding list_of_reader
 returns c =
-    let f = c in
     rw (
       as_number c.struct_known-1.given.1.1.1.1.1.1.1.1.1.0,
-      same_number f.flag-error.result f.flag-error.type-inv,
-      f.flag-error.ensures,
+      same_number c.flag-error.result c.flag-error.type_inv,
+      c.flag-error.ensures,
     ) at c.put.ensures

@@ -6,12 +6,11 @@ use Rattle.gurthapen_state.proofs.store.store_writer.Goals as goal
 pub returns : goal.returns
 unfolding list_of_writer
 returns c =
-    let f = c in
     rw (
-      same_number f.held-rem.result f.held-rem.type-inv,
-      f.held-rem.ensures,
-      same_number f.flag-error.result f.flag-error.type-inv,
-      f.flag-error.ensures,
-      same_number f.flag-closed.result f.flag-closed.type-inv,
-      f.flag-closed.ensures,
+      same_number c.held-rem.result c.held-rem.type_inv,
+      c.held-rem.ensures,
+      same_number c.flag-error.result c.flag-error.type_inv,
+      c.flag-error.ensures,
+      same_number c.flag-closed.result c.flag-closed.type_inv,
+      c.flag-closed.ensures,
     ) at c.put.ensures
