@@ -8,11 +8,9 @@ use Rattle.laws.proofs.all_finite.Goals as goal
 
 pub loop-i-preserved : goal.loop-i-preserved
 loop-i-preserved c =
-    let p = c in
-    let l = p.args.l.now in
-    (omega arith, every_on finite l p.loop-i.i nan (omega arith) p.loop-i.ok c.is_finite-inside.ensures ∙ p.loop-i.invariant.1)
+    let l = c.args.l.now in
+    (omega arith, every_on finite l c.loop-i.i nan (omega arith) c.loop-i.ok c.is_finite-inside.ensures ∙ c.loop-i.invariant.1)
 
 pub returns : goal.returns
 returns c =
-    let p = c in
-    sym (every-end finite p.loop-i.ok p.args.l.now p.loop-i.i (omega arith)) ∙ p.loop-i.invariant.1
+    sym (every-end finite c.loop-i.ok c.args.l.now c.loop-i.i (omega arith)) ∙ c.loop-i.invariant.1

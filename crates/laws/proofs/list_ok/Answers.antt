@@ -12,21 +12,19 @@ use Rattle.laws.proofs.list_ok.Goals as goal
 
 pub loop-i-preserved : goal.loop-i-preserved
 loop-i-preserved c =
-    let p = c in
-    let a = p.args in
-    let f = p.ranges in
-    let v : SFits w32 (get_or a.l.now p.loop-i.i (pos 0)) = record { sfits = c.v-1.given } in (
+    let a = c.args in
+    let f = c.ranges in
+    let v : SFits w32 (get_or a.l.now c.loop-i.i (pos 0)) = record { sfits = c.v-1.given } in (
       omega arith,
       rw (to_z-of_z f.lo, to_z-of_z f.hi)
-          (every_on (in_range a.lo a.hi) a.l.now p.loop-i.i (pos 0) (omega arith) p.loop-i.ok
+          (every_on (in_range a.lo a.hi) a.l.now c.loop-i.i (pos 0) (omega arith) c.loop-i.ok
           (rw (to_z-of_z f.lo, to_z-of_z f.hi, to_z-of_z v) at c.in_range-inside.ensures)
-          ∙ (rw (to_z-of_z f.lo, to_z-of_z f.hi) at p.loop-i.invariant.1)),
+          ∙ (rw (to_z-of_z f.lo, to_z-of_z f.hi) at c.loop-i.invariant.1)),
     )
 
 pub returns : goal.returns
 returns c =
-    let p = c in
-    let a = p.args in
-    let f = p.ranges in
-    sym (every-end (in_range a.lo a.hi) p.loop-i.ok a.l.now p.loop-i.i (omega arith))
-    ∙ (rw (to_z-of_z f.lo, to_z-of_z f.hi) at p.loop-i.invariant.1)
+    let a = c.args in
+    let f = c.ranges in
+    sym (every-end (in_range a.lo a.hi) c.loop-i.ok a.l.now c.loop-i.i (omega arith))
+    ∙ (rw (to_z-of_z f.lo, to_z-of_z f.hi) at c.loop-i.invariant.1)

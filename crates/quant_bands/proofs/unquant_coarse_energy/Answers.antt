@@ -43,8 +43,7 @@ end_is : (c : After-place_of-to) →
     let start = c in
     c.place_of-to.result ≡ clip start.args.end
 end_is c =
-    let start = c in
-    rw (to_z-of_z start.ranges.end) at c.place_of-to.ensures
+    rw (to_z-of_z c.ranges.end) at c.place_of-to.ensures
 
 pub coarse-next-requires : goal.coarse-next-requires
 coarse-next-requires c =

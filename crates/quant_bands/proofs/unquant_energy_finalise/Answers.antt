@@ -38,15 +38,13 @@ end_is : (c : After-place_of-to) →
     let start = c in
     c.place_of-to.result ≡ clip start.args.end
 end_is c =
-    let start = c in
-    rw (to_z-of_z start.ranges.end) at c.place_of-to.ensures
+    rw (to_z-of_z c.ranges.end) at c.place_of-to.ensures
 
 left_is : (c : After-clipped-bits) →
     let start = c in
     c.clipped-bits.result ≡ clip start.args.left
 left_is c =
-    let start = c in
-    rw (to_z-of_z start.ranges.left) at c.clipped-bits.ensures.0
+    rw (to_z-of_z c.ranges.left) at c.clipped-bits.ensures.0
 
 pub finalise-next-requires : goal.finalise-next-requires
 finalise-next-requires c =

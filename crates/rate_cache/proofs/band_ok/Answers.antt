@@ -6,5 +6,4 @@ use Rattle.rate_cache.proofs.band_ok.Goals as goal
 pub returns : goal.returns
 unfolding band_ok
 returns c =
-    let s = c in
-    rw (c.in_range-2.ensures, c.in_range.ensures, to_z-of_z s.ranges.band, to_z-of_z s.ranges.lm)
+    rw (c.in_range-2.ensures, c.in_range.ensures, to_z-of_z c.ranges.band, to_z-of_z c.ranges.lm)

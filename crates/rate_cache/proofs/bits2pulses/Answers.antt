@@ -38,17 +38,13 @@ row_of-requires c = let f = c.ranges in rw (to_z-of_z f.band, to_z-of_z f.lm) (p
 
 pub pulses_for-requires : goal.pulses_for-requires
 pulses_for-requires c =
-    let d = c in
-    let s = d in
-    let p = pass (goal.at.pulses_for-requires c).After-bits_refusal-no d.if-no-ne0.false in
-    let n = rw (to_z-of_z s.ranges.bits) at c.clipped.ensures.0 in
-    (rw (start (goal.at.pulses_for-requires c).After-row_of) (row_is s.args.band s.args.lm p.0), omega (arith, p.1))
+    let p = pass (goal.at.pulses_for-requires c).After-bits_refusal-no c.if-no-ne0.false in
+    let n = rw (to_z-of_z c.ranges.bits) at c.clipped.ensures.0 in
+    (rw (start (goal.at.pulses_for-requires c).After-row_of) (row_is c.args.band c.args.lm p.0), omega (arith, p.1))
 
 pub returns : goal.returns
 unfolding bits_to_pulses
 returns c =
-    let d = c in
-    let s = d in
-    let n = rw (to_z-of_z s.ranges.bits) at c.clipped.ensures.0 in
-    answer-yes _ _ (number (goal.at.returns c).After-bits_refusal-no) d.if-no-ne0.false
-    ((rw (start (goal.at.returns c).After-row_of, n) at c.pulses_for.ensures) ∙ pulses-clip _ s.args.bits)
+    let n = rw (to_z-of_z c.ranges.bits) at c.clipped.ensures.0 in
+    answer-yes _ _ (number (goal.at.returns c).After-bits_refusal-no) c.if-no-ne0.false
+    ((rw (start (goal.at.returns c).After-row_of, n) at c.pulses_for.ensures) ∙ pulses-clip _ c.args.bits)

@@ -19,14 +19,11 @@ returns-then-no-ne0 c = answer_no _ _ (number (goal.at.returns-then-no-ne0 c).Af
 
 pub pulses_of-requires : goal.pulses_of-requires
 pulses_of-requires c =
-    let d = c in
-    let s = d in
-    let n = rw (to_z-of_z s.ranges.i) at c.clipped.ensures.0 in
-    omega (arith, index-pass s.args.i (sym (number (goal.at.pulses_of-requires c).After-refusal_of-no) ∙ d.if-no-ne0.false))
+    let n = rw (to_z-of_z c.ranges.i) at c.clipped.ensures.0 in
+    omega (arith, index-pass c.args.i (sym (number (goal.at.pulses_of-requires c).After-refusal_of-no) ∙ c.if-no-ne0.false))
 
 pub returns : goal.returns
 unfolding pulses_at
 returns c =
-    let d = c in
-    let n = rw (to_z-of_z d.ranges.i) at c.clipped.ensures.0 in
-    answer-yes _ _ (number (goal.at.returns c).After-refusal_of-no) d.if-no-ne0.false (rw n at c.pulses_of.ensures)
+    let n = rw (to_z-of_z c.ranges.i) at c.clipped.ensures.0 in
+    answer-yes _ _ (number (goal.at.returns c).After-refusal_of-no) c.if-no-ne0.false (rw n at c.pulses_of.ensures)

@@ -23,10 +23,9 @@ some c = let a = c.args in some-mark a.lm a.band c.mark_of-mark.ensures.0 c.if-m
 within : (c : After-in_range)
     → let a = c.args in c.in_range.result ≡ in_range (pos 0) (pos (row_length (row_start a.lm a.band))) a.pulses
 within c =
-    let p = c in
     let m = c.mark_of-mark in
-    let e = mark-length p.args.lm p.args.band (some (goal.at.After-in_range c).Else-mark-eq0) in
-    rw (to_z-of_z p.ranges.pulses, to_z_pos w32 (m.result / 512) (omega (arith, m.ensures.1)), m.ensures.0, e) at c.in_range.ensures
+    let e = mark-length c.args.lm c.args.band (some (goal.at.After-in_range c).Else-mark-eq0) in
+    rw (to_z-of_z c.ranges.pulses, to_z_pos w32 (m.result / 512) (omega (arith, m.ensures.1)), m.ensures.0, e) at c.in_range.ensures
 
 pub returns-then-mark-eq0 : goal.returns-then-mark-eq0
 unfolding no_entry

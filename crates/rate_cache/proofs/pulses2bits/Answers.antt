@@ -38,17 +38,13 @@ row_of-requires c = let f = c.ranges in rw (to_z-of_z f.band, to_z-of_z f.lm) (p
 
 pub bits_for-requires : goal.bits_for-requires
 bits_for-requires c =
-    let d = c in
-    let s = d in
-    let p = pass (goal.at.bits_for-requires c).After-pulses_refusal-no d.if-no-ne0.false in
-    let w = row_is s.args.band s.args.lm p.0 in
-    let n = rw (to_z-of_z s.ranges.pulses) at c.clipped.ensures.0 in
+    let p = pass (goal.at.bits_for-requires c).After-pulses_refusal-no c.if-no-ne0.false in
+    let w = row_is c.args.band c.args.lm p.0 in
+    let n = rw (to_z-of_z c.ranges.pulses) at c.clipped.ensures.0 in
     rw (start (goal.at.bits_for-requires c).After-row_of, n) (omega (arith, p.1, w.inside))
 
 pub returns : goal.returns
 unfolding pulses_to_bits
 returns c =
-    let d = c in
-    let s = d in
-    let n = rw (to_z-of_z s.ranges.pulses) at c.clipped.ensures.0 in
-    answer-yes _ _ (number (goal.at.returns c).After-pulses_refusal-no) d.if-no-ne0.false (rw (start (goal.at.returns c).After-row_of, n) at c.bits_for.ensures)
+    let n = rw (to_z-of_z c.ranges.pulses) at c.clipped.ensures.0 in
+    answer-yes _ _ (number (goal.at.returns c).After-pulses_refusal-no) c.if-no-ne0.false (rw (start (goal.at.returns c).After-row_of, n) at c.bits_for.ensures)

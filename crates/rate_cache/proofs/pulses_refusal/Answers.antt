@@ -13,11 +13,9 @@ tests c = let f = c.ranges in rw (to_z-of_z f.band, to_z-of_z f.lm) at c.band_ok
 
 pub no_entry-requires : goal.no_entry-requires
 no_entry-requires c =
-    let d = c in
-    let s = d in
-    let p = in_index s.args.band s.args.lm (rw (tests (goal.at.no_entry-requires c).After-band_ok) at d.if-band_ok.true) in
-    let l = rw (to_z-of_z s.ranges.lm) at c.level.ensures in
-    let b = rw (to_z-of_z s.ranges.band) at c.clipped.ensures.0 in
+    let p = in_index c.args.band c.args.lm (rw (tests (goal.at.no_entry-requires c).After-band_ok) at c.if-band_ok.true) in
+    let l = rw (to_z-of_z c.ranges.lm) at c.level.ensures in
+    let b = rw (to_z-of_z c.ranges.band) at c.clipped.ensures.0 in
     (omega arith, omega arith)
 
 pub returns : goal.returns

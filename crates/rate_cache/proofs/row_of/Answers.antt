@@ -14,10 +14,9 @@ use Rattle.rate_cache.proofs.row_of.Goals.{After-mark_of-mark}
 at : (c : After-mark_of-mark)
     → c.mark_of-mark.result % 512 ≡ index_entry (level_of c.args.lm) (clip c.args.band)
 at c =
-    let s = c in
-    let l = rw (to_z-of_z s.ranges.lm) at c.level.ensures in
-    let b = rw (to_z-of_z s.ranges.band) at c.clipped.ensures.0 in
-    rw (rw (l, b) at c.mark_of-mark.ensures.0) (mark-place (level_of s.args.lm) (clip s.args.band))
+    let l = rw (to_z-of_z c.ranges.lm) at c.level.ensures in
+    let b = rw (to_z-of_z c.ranges.band) at c.clipped.ensures.0 in
+    rw (rw (l, b) at c.mark_of-mark.ensures.0) (mark-place (level_of c.args.lm) (clip c.args.band))
 
 pub overflow_sub-result : goal.overflow_sub-result
 overflow_sub-result c = omega (arith, at (goal.at.overflow_sub-result c).After-mark_of-mark, c.requires.some)

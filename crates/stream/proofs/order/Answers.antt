@@ -8,7 +8,5 @@ use Rattle.stream.proofs.order.Goals as goal
 pub returns : goal.returns
 unfolding ordered
 returns c =
-    let o = c in
-    let k = o in
-    let r : c.refusal_of.result ≡ refusal true k.both_in_domain-known.result true o.order_of-special.result true true = c.refusal_of.ensures in
-    rw (k.both_in_domain-known.ensures, o.order_of-special.ensures) at r
+    let r : c.refusal_of.result ≡ refusal true c.both_in_domain-known.result true c.order_of-special.result true true = c.refusal_of.ensures in
+    rw (c.both_in_domain-known.ensures, c.order_of-special.ensures) at r

@@ -16,7 +16,7 @@ abbrev question : Start → ShapeRequest
 question p = let a = p.args in shape_request a.n a.k a.spread a.b a.gain
 
 -- the gate's number, in the contract's terms
-gated : (c : After-refusal_shape-no) → let p = c in let a = p.args in
+gated : (c : After-refusal_shape-no) → let a = c.args in
     c.refusal_shape-no.result ≡ refusal_shape (question (goal.at.After-refusal_shape-no c).Start) (length a.shape.now) a.s.now a.d
 unfolding refusal_shape
 gated c =
@@ -42,9 +42,7 @@ parts_is c = c.clipped-parts.ensures.0 ∙ ap clip (to_z-of_z c.ranges.b)
 
 pub unquant-r-requires : goal.unquant-r-requires
 unquant-r-requires c =
-    let z = c in
-    let t = z in
-    let a = t.args in
+    let a = c.args in
     let o = passed (goal.at.unquant-r-requires c).Then-no-eq0 in
     let q = domain a.n a.k a.spread a.b o.known in
     let n = q.places in
@@ -66,11 +64,8 @@ unquant-r-requires c =
 
 pub returns-then-no-eq0 : goal.returns-then-no-eq0
 returns-then-no-eq0 c =
-    let u = c in
-    let z = u in
-    let t = z in
-    let e = rw (places_is (goal.at.returns-then-no-eq0 c).After-clipped-places, pulses-is (goal.at.returns-then-no-eq0 c).After-clipped-pulses, parts_is (goal.at.returns-then-no-eq0 c).After-clipped-parts) at u.unquant-r.ensures in
-    rw (e.0, e.1) (answer_got _ _ _ _ (sym (gated (goal.at.returns-then-no-eq0 c).After-refusal_shape-no) ∙ t.if-no-eq0.true))
+    let e = rw (places_is (goal.at.returns-then-no-eq0 c).After-clipped-places, pulses-is (goal.at.returns-then-no-eq0 c).After-clipped-pulses, parts_is (goal.at.returns-then-no-eq0 c).After-clipped-parts) at c.unquant-r.ensures in
+    rw (e.0, e.1) (answer_got _ _ _ _ (sym (gated (goal.at.returns-then-no-eq0 c).After-refusal_shape-no) ∙ c.if-no-eq0.true))
 
 pub returns-else-no-eq0 : goal.returns-else-no-eq0
 returns-else-no-eq0 c =

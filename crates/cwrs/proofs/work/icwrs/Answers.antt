@@ -30,8 +30,7 @@ held : (c : After-unsigned_abs) → SFits w32 (place c)
 held c = search rules
 
 -- and with it
-second : (c : After-unsigned_abs) → let p = c in
-    NextPlace p.args.y.now p.args.n p.loop-j.j p.loop-j.k p.loop-j.i c.unsigned_abs.result
+second : (c : After-unsigned_abs) → NextPlace c.args.y.now c.args.n c.loop-j.j c.loop-j.k c.loop-j.i c.unsigned_abs.result
 second c =
     let l = c.loop-j in
     next_place c.args.y.now c.args.n l.j l.k l.i c.unsigned_abs.result (omega arith) (omega arith) c.requires.0 c.requires.2

@@ -9,14 +9,12 @@ use Rattle.cwrs_counts.proofs.stored.entry.Goals as goal
 
 pub pair_of-requires : goal.pair_of-requires
 pair_of-requires c =
-    let b = c in
-    (omega arith, (stored b.args.a b.args.b b.requires.0 b.requires.1 b.requires.2).0)
+    (omega arith, (stored c.args.a c.args.b c.requires.0 c.requires.1 c.requires.2).0)
 
 pub returns-else-a-lt2 : goal.returns-else-a-lt2
 returns-else-a-lt2 c =
-    let b = c in
-    let a = b.args in
-    let s = stored a.a a.b b.requires.0 b.requires.1 b.requires.2 in
+    let a = c.args in
+    let s = stored a.a a.b c.requires.0 c.requires.1 c.requires.2 in
     c.half.ensures
     ∙ ap (λ (w : ℕ). cond (eqb (a.b % 2) 0) (w % 4294967296) (w / 4294967296)) c.pair_of.ensures
     ∙ halved a.a a.b s.0

@@ -7,5 +7,4 @@ use Rattle.cwrs_counts.proofs.stored.held.Goals as goal
 
 pub returns : goal.returns
 returns c =
-    let b = c in
-    ap (λ (x : ℕ). ltb b.args.b x) c.length_of.ensures ∙ held_iff b.args.a b.args.b b.requires.0 b.requires.1
+    ap (λ (x : ℕ). ltb c.args.b x) c.length_of.ensures ∙ held_iff c.args.a c.args.b c.requires.0 c.requires.1

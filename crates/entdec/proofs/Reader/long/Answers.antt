@@ -55,9 +55,6 @@ returns-then-v-m c =
 
 pub returns-else-v-m : goal.returns-else-v-m
 returns-else-v-m c =
-    let here = c in
-    let at-flat = here in
-    let start = at-flat in
-    let a = start.args in
-    rw (c.marked.ensures, low (goal.at.returns-else-v-m c).After-raw-z, at-flat.flat-y.ensures)
+    let a = c.args in
+    rw (c.marked.ensures, low (goal.at.returns-else-v-m c).After-raw-z, c.flat-y.ensures)
     (sym (long-out a.m a.b a.s.now a.self (rw (sum (goal.at.returns-else-v-m c).After-struct_known-1).0 at c.if-v-m.false)))

@@ -33,17 +33,15 @@ bounds-t-k c = more (goal.at.bounds-t-k c).In-loop-lo
 
 pub overflow_mul-lo-in-loop-lo : goal.overflow_mul-lo-in-loop-lo
 overflow_mul-lo-in-loop-lo c =
-    let start = c in
-    let a = start.args in
-    let p = start.requires in
+    let a = c.args in
+    let p = c.requires in
     rw c.wide-in-loop-lo.ensures.0
     (omega (arith, share-le a.self.rng (2 ^ a.ftb) _ (le_of_lt (below (2 ^ a.ftb) a.t.now _ p.t_nonzero.1 (more (goal.at.overflow_mul-lo-in-loop-lo c).In-loop-lo)))))
 
 pub loop-lo-preserved : goal.loop-lo-preserved
 loop-lo-preserved c =
-    let start = c in
-    let a = start.args in
-    let p = start.requires in
+    let a = c.args in
+    let p = c.requires in
     let l = c.loop-lo in (
       more (goal.at.loop-lo-preserved c).In-loop-lo,
       ap (λ (x : ℕ). a.self.rng / 2 ^ a.ftb * x) c.wide-in-loop-lo.ensures.0,
@@ -65,9 +63,8 @@ overflow_cast-result c =
 
 pub returns : goal.returns
 returns c =
-    let start = c in
-    let a = start.args in
-    let p = start.requires in
+    let a = c.args in
+    let p = c.requires in
     let l = c.loop-lo in
     let ft = 2 ^ a.ftb in
     let found : find_sym (decoded_place ft a.self) ft a.t.now ≡ l.k =

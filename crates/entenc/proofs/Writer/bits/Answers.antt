@@ -17,16 +17,12 @@ put_bits-w-requires c =
 
 pub returns-then-no-eq0 : goal.returns-then-no-eq0
 returns-then-no-eq0 c =
-    let at-if1 = c in
-    let at-refusal = at-if1 in
-    let at-below-pow2 = at-refusal in
-    let start = at-below-pow2 in
-    let a = start.args in
+    let a = c.args in
     let k = c.put_bits-w in
     say-next _ (refusal_w (raw a.n) a.v (wr a.self a.buf.now)) (wr a.self a.buf.now)
     (write_sym (raw a.n) a.v (wr a.self a.buf.now))
-    (raw_gate _ a.v a.n (wr a.self a.buf.now) _ at-refusal.refusal-no.ensures at-below-pow2.below_pow2.ensures)
-    (wr k.result k.new.buf) at-if1.if-no-eq0.true (k.ensures ∙ raw_one a.n a.v (wr a.self a.buf.now))
+    (raw_gate _ a.v a.n (wr a.self a.buf.now) _ c.refusal-no.ensures c.below_pow2.ensures)
+    (wr k.result k.new.buf) c.if-no-eq0.true (k.ensures ∙ raw_one a.n a.v (wr a.self a.buf.now))
 
 pub returns-else-no-eq0 : goal.returns-else-no-eq0
 returns-else-no-eq0 c =

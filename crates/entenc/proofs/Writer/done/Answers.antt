@@ -24,58 +24,43 @@ last_bytes-w-requires c =
 
 pub carry-s2-requires : goal.carry-s2-requires
 carry-s2-requires c =
-    let at-last-bytes = c in
-    let start = at-last-bytes in
-    let a = start.args in
-    let p = start.requires.sound in
-    let k = at-last-bytes.last_bytes-w in
-    let f = close-fit (wr a.self a.buf.now) (wr k.result k.new.buf) _ _ start.requires k.ensures in
+    let a = c.args in
+    let p = c.requires.sound in
+    let k = c.last_bytes-w in
+    let f = close-fit (wr a.self a.buf.now) (wr k.result k.new.buf) _ _ c.requires k.ensures in
     (f.0, f.1, omega arith)
 
 pub flush-f-requires : goal.flush-f-requires
 flush-f-requires c =
-    let at-last-bytes = c in
-    let start = at-last-bytes in
-    let a = start.args in
-    let p = start.requires.sound in
-    let k = at-last-bytes.last_bytes-w in
-    let f = close-fit (wr a.self a.buf.now) (wr k.result k.new.buf) _ _ start.requires k.ensures in
+    let a = c.args in
+    let p = c.requires.sound in
+    let k = c.last_bytes-w in
+    let f = close-fit (wr a.self a.buf.now) (wr k.result k.new.buf) _ _ c.requires k.ensures in
     rw c.carry-s2.ensures (emit-fit _ _ f.0)
 
 pub overflow_mul-k : goal.overflow_mul-k
 overflow_mul-k c =
-    let at-last-of = c in
-    let start = at-last-of in
-    let a = start.args in
-    let p = start.requires.sound in
+    let a = c.args in
+    let p = c.requires.sound in
     let t = tail_bits_lem a.self.val a.self.rng p.range_gt p.end_lt in
-    let b = at-last-of.last_of-t.ensures.0 in
+    let b = c.last_of-t.ensures.0 in
     omega arith
 
 pub finish-s4-requires : goal.finish-s4-requires
 finish-s4-requires c =
-    let at-flush = c in
-    let at-carry = at-flush in
-    let at-last-bytes = at-carry in
-    let start = at-last-bytes in
-    let a = start.args in
-    let p = start.requires.sound in
-    let k = at-last-bytes.last_bytes-w in
-    let f = close-fit (wr a.self a.buf.now) (wr k.result k.new.buf) _ _ start.requires k.ensures in
-    (rw at-flush.flush-f.ensures.0 (flushed-fit _ _ _ (rw at-carry.carry-s2.ensures (emit-fit _ _ f.0))), omega arith)
+    let a = c.args in
+    let p = c.requires.sound in
+    let k = c.last_bytes-w in
+    let f = close-fit (wr a.self a.buf.now) (wr k.result k.new.buf) _ _ c.requires k.ensures in
+    (rw c.flush-f.ensures.0 (flushed-fit _ _ _ (rw c.carry-s2.ensures (emit-fit _ _ f.0))), omega arith)
 
 pub returns : goal.returns
 returns c =
-    let at-flush = c in
-    let at-carry = at-flush in
-    let at-last-bytes = at-carry in
-    let at-last-of = at-last-bytes in
-    let start = at-last-of in
-    let a = start.args in
-    let l = at-last-of.last_of-t in
-    let k = at-last-bytes.last_bytes-w in
-    let y = at-carry.carry-s2 in
-    let f = at-flush.flush-f in
+    let a = c.args in
+    let l = c.last_of-t in
+    let k = c.last_bytes-w in
+    let y = c.carry-s2 in
+    let f = c.flush-f in
     let z = c.finish-s4 in
     close-is (wr a.self a.buf.now) (wr k.result k.new.buf) l.result.bits l.result.end (out y.result y.new.buf)
     (out f.result.sink f.new.buf) (out z.result z.new.buf) _ _ _

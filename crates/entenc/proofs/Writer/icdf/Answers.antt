@@ -17,14 +17,12 @@ gated c = c.refusal_table-no.ensures
 
 pub put_icdf-w-requires : goal.put_icdf-w-requires
 put_icdf-w-requires c =
-    let g = c in
-    let a = g.args in
+    let a = c.args in
     table_needs _ a.s (wr a.self a.buf.now) a.t.now a.ftb (gated (goal.at.put_icdf-w-requires c).After-refusal_table-no) c.if-no-eq0.true
 
 pub returns-then-no-eq0 : goal.returns-then-no-eq0
 returns-then-no-eq0 c =
-    let g = c in
-    let a = g.args in
+    let a = c.args in
     let k = c.put_icdf-w in
     let w = wr a.self a.buf.now in
     say-next _ (refusal_w (table a.t.now a.ftb) a.s w) w (write_sym (table a.t.now a.ftb) a.s w) (gated (goal.at.returns-then-no-eq0 c).After-refusal_table-no) (wr k.result k.new.buf)
@@ -32,7 +30,6 @@ returns-then-no-eq0 c =
 
 pub returns-else-no-eq0 : goal.returns-else-no-eq0
 returns-else-no-eq0 c =
-    let g = c in
-    let a = g.args in
+    let a = c.args in
     let w = wr a.self a.buf.now in
     say_no _ (refusal_w (table a.t.now a.ftb) a.s w) w (write_sym (table a.t.now a.ftb) a.s w) (gated (goal.at.returns-else-no-eq0 c).After-refusal_table-no) c.if-no-eq0.false

@@ -7,11 +7,10 @@ use Rattle.entenc.proofs.Writer.last_bytes.Goals as goal
 
 pub shift-requires-else-k-eq1 : goal.shift-requires-else-k-eq1
 shift-requires-else-k-eq1 c =
-    let start = c in
-    let a = start.args in
+    let a = c.args in
     let w = ending_at a.end 1 (wr a.self a.buf.now) in
     let k = c.shift-w in
-    second w (wr k.result k.new.buf) k.ensures (ending_renorm _ _ start.requires.0 start.requires.1) refl
+    second w (wr k.result k.new.buf) k.ensures (ending_renorm _ _ c.requires.0 c.requires.1) refl
 
 pub returns-then-k-eq0 : goal.returns-then-k-eq0
 returns-then-k-eq0 c =
@@ -27,10 +26,6 @@ returns-then-k-eq1 c =
 
 pub returns-else-k-eq1 : goal.returns-else-k-eq1
 returns-else-k-eq1 c =
-    let at-shift2 = c in
-    let at-if2 = at-shift2 in
-    let at-if1 = at-if2 in
-    let start = at-if1 in
-    let a = start.args in
+    let a = c.args in
     let w = ending_at a.end 1 (wr a.self a.buf.now) in
-    c.shift-else-k-eq1.ensures ∙ ap shift_w at-shift2.shift-w.ensures ∙ by_two a.k w at-if1.if-k-eq0.false at-if2.if-k-eq1.false start.requires.2
+    c.shift-else-k-eq1.ensures ∙ ap shift_w c.shift-w.ensures ∙ by_two a.k w c.if-k-eq0.false c.if-k-eq1.false c.requires.2

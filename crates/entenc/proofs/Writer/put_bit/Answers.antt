@@ -15,14 +15,10 @@ narrow-requires c =
 
 pub returns-then-value-eq0 : goal.returns-then-value-eq0
 returns-then-value-eq0 c =
-    let at-if1 = c in
-    let start = at-if1 in
-    let a = start.args in
-    c.narrow.ensures ∙ put-zero a.logp start.requires.1 a.value (wr a.self a.buf.now) at-if1.if-value-eq0.true
+    let a = c.args in
+    c.narrow.ensures ∙ put-zero a.logp c.requires.1 a.value (wr a.self a.buf.now) c.if-value-eq0.true
 
 pub returns-else-value-eq0 : goal.returns-else-value-eq0
 returns-else-value-eq0 c =
-    let at-if1 = c in
-    let start = at-if1 in
-    let a = start.args in
-    c.narrow-else-value-eq0.ensures ∙ put_one a.logp start.requires.1 a.value (wr a.self a.buf.now) at-if1.if-value-eq0.false
+    let a = c.args in
+    c.narrow-else-value-eq0.ensures ∙ put_one a.logp c.requires.1 a.value (wr a.self a.buf.now) c.if-value-eq0.false

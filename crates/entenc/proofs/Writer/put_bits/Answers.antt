@@ -11,11 +11,8 @@ returns-then-self-n-le32 c =
 
 pub returns : goal.returns
 returns c =
-    let at-flush = c in
-    let at-if1 = at-flush in
-    let start = at-if1 in
-    let a = start.args in
-    let f = at-flush.flush-f in
+    let a = c.args in
+    let f = c.flush-f in
     rw c.topped-2.ensures
-    (bits-flush a.n a.v (wr a.self a.buf.now) (out f.result.sink f.new.buf) _ _ at-if1.if-self-n-le32.false f.ensures.0 f.ensures.1
+    (bits-flush a.n a.v (wr a.self a.buf.now) (out f.result.sink f.new.buf) _ _ c.if-self-n-le32.false f.ensures.0 f.ensures.1
     f.ensures.2)

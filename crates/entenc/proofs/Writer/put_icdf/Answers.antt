@@ -14,97 +14,74 @@ overflow_mul-q c =
 
 pub overflow_sub-self : goal.overflow_sub-self
 overflow_sub-self c =
-    let start = c in
-    let a = start.args in
-    let p = start.requires in
+    let a = c.args in
+    let p = c.requires in
     let t = takes_first a.self.rng a.ftb a.t.now a.s _ p.2 p.1 c.wide-x.ensures.0 p.3
     p.0.sound.range_gt in
     omega arith
 
 pub narrow-requires : goal.narrow-requires
 narrow-requires c =
-    let start = c in
-    let a = start.args in
-    let p = start.requires in
+    let a = c.args in
+    let p = c.requires in
     let t = takes_first a.self.rng a.ftb a.t.now a.s _ p.2 p.1 c.wide-x.ensures.0 p.3
     p.0.sound.range_gt in
     (p.0, omega arith, omega arith)
 
 pub overflow_mul-q-else-s-eq0 : goal.overflow_mul-q-else-s-eq0
 overflow_mul-q-else-s-eq0 c =
-    let at_wide = c in
-    let start = at_wide in
-    let a = start.args in
-    let p = start.requires in
-    let t = takes-next a.self.rng a.ftb a.t.now a.s _ p.2 p.1 at_wide.wide-x.ensures.0 p.3 p.0.sound.range_gt _
+    let a = c.args in
+    let p = c.requires in
+    let t = takes-next a.self.rng a.ftb a.t.now a.s _ p.2 p.1 c.wide-x.ensures.0 p.3 p.0.sound.range_gt _
     c.if-s-eq0.false c.wide-y.ensures.0 in
     omega arith
 
 pub overflow_sub-self-else-s-eq0 : goal.overflow_sub-self-else-s-eq0
 overflow_sub-self-else-s-eq0 c =
-    let at-if1 = c in
-    let at_wide = at-if1 in
-    let start = at_wide in
-    let a = start.args in
-    let p = start.requires in
-    let t = takes-next a.self.rng a.ftb a.t.now a.s _ p.2 p.1 at_wide.wide-x.ensures.0 p.3 p.0.sound.range_gt _
-    at-if1.if-s-eq0.false
+    let a = c.args in
+    let p = c.requires in
+    let t = takes-next a.self.rng a.ftb a.t.now a.s _ p.2 p.1 c.wide-x.ensures.0 p.3 p.0.sound.range_gt _
+    c.if-s-eq0.false
     c.wide-y.ensures.0 in
     t.upper-le
 
 pub overflow_sub-y : goal.overflow_sub-y
 overflow_sub-y c =
-    let at-if1 = c in
-    let at_wide = at-if1 in
-    let start = at_wide in
-    let a = start.args in
-    let p = start.requires in
-    let t = takes-next a.self.rng a.ftb a.t.now a.s _ p.2 p.1 at_wide.wide-x.ensures.0 p.3 p.0.sound.range_gt _
-    at-if1.if-s-eq0.false
+    let a = c.args in
+    let p = c.requires in
+    let t = takes-next a.self.rng a.ftb a.t.now a.s _ p.2 p.1 c.wide-x.ensures.0 p.3 p.0.sound.range_gt _
+    c.if-s-eq0.false
     c.wide-y.ensures.0 in
     omega arith
 
 pub overflow_mul-q-else-s-eq0-2 : goal.overflow_mul-q-else-s-eq0-2
 overflow_mul-q-else-s-eq0-2 c =
-    let at-if1 = c in
-    let at_wide = at-if1 in
-    let start = at_wide in
-    let a = start.args in
-    let p = start.requires in
-    let t = takes-next a.self.rng a.ftb a.t.now a.s _ p.2 p.1 at_wide.wide-x.ensures.0 p.3 p.0.sound.range_gt _
-    at-if1.if-s-eq0.false
+    let a = c.args in
+    let p = c.requires in
+    let t = takes-next a.self.rng a.ftb a.t.now a.s _ p.2 p.1 c.wide-x.ensures.0 p.3 p.0.sound.range_gt _
+    c.if-s-eq0.false
     c.wide-y.ensures.0 in
     omega arith
 
 pub narrow-requires-else-s-eq0 : goal.narrow-requires-else-s-eq0
 narrow-requires-else-s-eq0 c =
-    let at-if1 = c in
-    let at_wide = at-if1 in
-    let start = at_wide in
-    let a = start.args in
-    let p = start.requires in
-    let t = takes-next a.self.rng a.ftb a.t.now a.s _ p.2 p.1 at_wide.wide-x.ensures.0 p.3 p.0.sound.range_gt _
-    at-if1.if-s-eq0.false
+    let a = c.args in
+    let p = c.requires in
+    let t = takes-next a.self.rng a.ftb a.t.now a.s _ p.2 p.1 c.wide-x.ensures.0 p.3 p.0.sound.range_gt _
+    c.if-s-eq0.false
     c.wide-y.ensures.0 in
     (p.0, t.width-pos, omega arith)
 
 pub returns-then-s-eq0 : goal.returns-then-s-eq0
 returns-then-s-eq0 c =
-    let at-if1 = c in
-    let at_wide = at-if1 in
-    let start = at_wide in
-    let a = start.args in
-    let p = start.requires in
-    c.narrow.ensures ∙ put_first a.ftb a.t.now p.2 (wr a.self a.buf.now) a.s _ p.1 at-if1.if-s-eq0.true
-    at_wide.wide-x.ensures.0
+    let a = c.args in
+    let p = c.requires in
+    c.narrow.ensures ∙ put_first a.ftb a.t.now p.2 (wr a.self a.buf.now) a.s _ p.1 c.if-s-eq0.true
+    c.wide-x.ensures.0
 
 pub returns-else-s-eq0 : goal.returns-else-s-eq0
 returns-else-s-eq0 c =
-    let at-wide2 = c in
-    let at-if1 = at-wide2 in
-    let at_wide = at-if1 in
-    let start = at_wide in
-    let a = start.args in
-    let p = start.requires in
-    c.narrow-else-s-eq0.ensures ∙ put_next a.ftb a.t.now p.2 (wr a.self a.buf.now) a.s _ _ p.1 at-if1.if-s-eq0.false
-    at_wide.wide-x.ensures.0 at-wide2.wide-y.ensures.0
+    let a = c.args in
+    let p = c.requires in
+    c.narrow-else-s-eq0.ensures ∙ put_next a.ftb a.t.now p.2 (wr a.self a.buf.now) a.s _ _ p.1 c.if-s-eq0.false
+    c.wide-x.ensures.0 c.wide-y.ensures.0

@@ -25,14 +25,10 @@ encode-w-requires c =
 
 pub put_bits-requires : goal.put_bits-requires
 put_bits-requires c =
-    let at-pow2 = c in
-    let at-if1 = at-pow2 in
-    let at-ilog = at-if1 in
-    let start = at-ilog in
-    let a = start.args in
-    let h = halves a.ft a.fl _ _ at-ilog.ilog-n.ensures.0 at-if1.if-n-le8.false at-pow2.pow2-u.ensures start.ranges.ft.fits start.requires.2 in
+    let a = c.args in
+    let h = halves a.ft a.fl _ _ c.ilog-n.ensures.0 c.if-n-le8.false c.pow2-u.ensures c.ranges.ft.fits c.requires.2 in
     let k = c.encode-w in
-    let r = ready_cut _ _ _ (wr a.self a.buf.now) (wr k.result k.new.buf) h.cut_ok start.requires.0 k.ensures in
+    let r = ready_cut _ _ _ (wr a.self a.buf.now) (wr k.result k.new.buf) h.cut_ok c.requires.0 k.ensures in
     (r, h.raw-ok.bits_pos, h.raw-ok.bits-le, h.raw-ok.value-lt)
 
 pub returns-then-n-le8 : goal.returns-then-n-le8
@@ -44,13 +40,8 @@ returns-then-n-le8 c =
 
 pub returns-else-n-le8 : goal.returns-else-n-le8
 returns-else-n-le8 c =
-    let at-encode2 = c in
-    let at-pow2 = at-encode2 in
-    let at-if1 = at-pow2 in
-    let at-ilog = at-if1 in
-    let start = at-ilog in
-    let a = start.args in
-    let h = halves a.ft a.fl _ _ at-ilog.ilog-n.ensures.0 at-if1.if-n-le8.false at-pow2.pow2-u.ensures start.ranges.ft.fits start.requires.2 in
-    let k = at-encode2.encode-w in
+    let a = c.args in
+    let h = halves a.ft a.fl _ _ c.ilog-n.ensures.0 c.if-n-le8.false c.pow2-u.ensures c.ranges.ft.fits c.requires.2 in
+    let k = c.encode-w in
     c.put_bits.ensures ∙ uint-two a.ft a.fl _ _ (wr a.self a.buf.now) (wr k.result k.new.buf) h
-    at-pow2.pow2-u.ensures k.ensures
+    c.pow2-u.ensures k.ensures

@@ -6,10 +6,7 @@ use Rattle.entenc.proofs.Writer.shift.Goals as goal
 
 pub returns : goal.returns
 returns c =
-    let at-held-by = c in
-    let at-carry = at-held-by in
-    let start = at-carry in
-    let a = start.args in
-    let k = at-carry.carry-t in
-    shift_is (wr a.self a.buf.now) (out k.result k.new.buf) _ _ k.ensures at-held-by.held_by.ensures
+    let a = c.args in
+    let k = c.carry-t in
+    shift_is (wr a.self a.buf.now) (out k.result k.new.buf) _ _ k.ensures c.held_by.ensures
     c.run_by.ensures

@@ -14,9 +14,6 @@ put_run-requires c =
 
 pub returns : goal.returns
 returns c =
-    let at-put-lead = c in
-    let at-if1 = at-put-lead in
-    let start = at-if1 in
-    let a = start.args in
-    settled_led a.rem a.ext a.c (out a.s a.buf.now) _ _ at-if1.if-c-eq255.false
-    at-put-lead.put_lead-t.ensures c.put_run.ensures
+    let a = c.args in
+    settled_led a.rem a.ext a.c (out a.s a.buf.now) _ _ c.if-c-eq255.false
+    c.put_lead-t.ensures c.put_run.ensures

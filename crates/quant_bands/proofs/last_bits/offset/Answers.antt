@@ -6,4 +6,4 @@ use Rattle.quant_bands.proofs.last_bits.offset.Goals as goal
 
 pub returns : goal.returns
 unfolding of_bits offset_of
-returns c = let s = c in rw (shifted s.args.fine s.requires.1)
+returns c = rw (shifted c.args.fine c.requires.1)

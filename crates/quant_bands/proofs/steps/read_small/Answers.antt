@@ -21,7 +21,7 @@ below c = let a = c.args in rw (told c) (small-below a.s.now a.d)
 
 pub symbol-y-requires : goal.symbol-y-requires
 symbol-y-requires c =
-    let p = c in record { ready = p.requires; le_ftb = (omega arith, omega arith); t_nonzero = rw c.table-t.ensures small-table }
+    record { ready = c.requires; le_ftb = (omega arith, omega arith); t_nonzero = rw c.table-t.ensures small-table }
 
 pub overflow_add-v : goal.overflow_add-v
 overflow_add-v c = record { fits = omega (arith, below (goal.at.overflow_add-v c).After-symbol-y) }

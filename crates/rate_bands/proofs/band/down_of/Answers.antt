@@ -10,8 +10,7 @@ use Rattle.rate_bands.proofs.band.down_of.Goals.{After-saturating_sub-d}
 
 product : (c : After-saturating_sub-d) → c.args.s * c.saturating_sub-d.result ≤ 563200
 product c =
-    let s = c in
-    tilt_le s.requires.0 s.args.j s.requires.2 (omega arith)
+    tilt_le c.requires.0 c.args.j c.requires.2 (omega arith)
 
 pub overflow_mul-m : goal.overflow_mul-m
 overflow_mul-m c = omega (arith, product (goal.at.overflow_mul-m c).After-saturating_sub-d)
@@ -21,19 +20,17 @@ overflow_add-m c = omega (arith, product (goal.at.overflow_add-m c).After-satura
 
 pub overflow_mul-w : goal.overflow_mul-w
 overflow_mul-w c =
-    let s = c in
-    omega (arith, mul-le-mul {n₂ = 22} {m₂ = 8} (width-le s.args.j s.requires.1) (power_le 3 c.pow2-p.ensures s.requires.0.lm-le))
+    omega (arith, mul-le-mul {n₂ = 22} {m₂ = 8} (width-le c.args.j c.requires.1) (power_le 3 c.pow2-p.ensures c.requires.0.lm-le))
 
 pub returns-then-w-p-eq1 : goal.returns-then-w-p-eq1
 unfolding trim_down
 returns-then-w-p-eq1 c =
-    let s = c in
     rw (
       c.floor_of.ensures.0,
       c.saturating_sub-d.ensures,
-      s.requires.2,
+      c.requires.2,
       ← c.pow2-p.ensures,
-      ← s.requires.1,
+      ← c.requires.1,
       eq-eqb _ _
           c.if-w-p-eq1.true,
     )
@@ -41,5 +38,4 @@ returns-then-w-p-eq1 c =
 pub returns-else-w-p-eq1 : goal.returns-else-w-p-eq1
 unfolding trim_down
 returns-else-w-p-eq1 c =
-    let s = c in
-    rw (c.saturating_sub-d.ensures, s.requires.2, ← c.pow2-p.ensures, ← s.requires.1, ne_eqb _ _ c.if-w-p-eq1.false) (omega arith)
+    rw (c.saturating_sub-d.ensures, c.requires.2, ← c.pow2-p.ensures, ← c.requires.1, ne_eqb _ _ c.if-w-p-eq1.false) (omega arith)

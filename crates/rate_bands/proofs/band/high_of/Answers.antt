@@ -7,18 +7,15 @@ use Rattle.rate_bands.proofs.band.high_of.Goals.{After-step_in-s}
 
 product : (c : After-step_in-s) → c.args.scale * c.step_in-s.result ≤ 70400
 product c =
-    let s = c in
-    scaled-le s.requires.0 s.args.j s.requires.5.scale-is c.step_in-s.ensures.1
+    scaled-le c.requires.0 c.args.j c.requires.5.scale-is c.step_in-s.ensures.1
 
 pub overflow_add-result : goal.overflow_add-result
 overflow_add-result c =
-    let s = c in
-    omega (arith, trimmed-most s.requires.0 _ s.args.j c.trimmed_of.ensures, s.requires.1.caps-le s.args.j, s.requires.1.offsets-le s.args.j)
+    omega (arith, trimmed-most c.requires.0 _ c.args.j c.trimmed_of.ensures, c.requires.1.caps-le c.args.j, c.requires.1.offsets-le c.args.j)
 
 pub returns-then-v-eq10 : goal.returns-then-v-eq10
 returns-then-v-eq10 c =
-    let s = c in
-    high-caps s.args.f s.args.offsets.now s.args.caps.now (s.args.v + 1) s.args.j (omega arith) c.trimmed_of.ensures
+    high-caps c.args.f c.args.offsets.now c.args.caps.now (c.args.v + 1) c.args.j (omega arith) c.trimmed_of.ensures
 
 pub overflow_mul-scale : goal.overflow_mul-scale
 overflow_mul-scale c = omega (arith, product (goal.at.overflow_mul-scale c).After-step_in-s)
@@ -30,12 +27,10 @@ trimmed_of-requires-2 c =
 
 pub overflow_add-result-2 : goal.overflow_add-result-2
 overflow_add-result-2 c =
-    let s = c in
-    omega (arith, product (goal.at.overflow_add-result-2 c).After-step_in-s, trimmed-most s.requires.0 _ s.args.j c.trimmed_of-2.ensures, s.requires.1.offsets-le s.args.j)
+    omega (arith, product (goal.at.overflow_add-result-2 c).After-step_in-s, trimmed-most c.requires.0 _ c.args.j c.trimmed_of-2.ensures, c.requires.1.offsets-le c.args.j)
 
 pub returns : goal.returns
 returns c =
-    let s = c in
-    high-vector s.args.f s.args.offsets.now s.args.caps.now (s.args.v + 1) s.args.j s.requires.5.scale-is
+    high-vector c.args.f c.args.offsets.now c.args.caps.now (c.args.v + 1) c.args.j c.requires.5.scale-is
     c.step_in-s.ensures.0
     c.trimmed_of-2.ensures (omega arith)

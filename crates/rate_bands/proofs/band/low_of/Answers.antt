@@ -7,8 +7,7 @@ use Rattle.rate_bands.proofs.band.low_of.Goals.{After-step_in-s}
 
 product : (c : After-step_in-s) → c.args.scale * c.step_in-s.result ≤ 70400
 product c =
-    let s = c in
-    scaled-le s.requires.0 s.args.j s.requires.5.scale-is c.step_in-s.ensures.1
+    scaled-le c.requires.0 c.args.j c.requires.5.scale-is c.step_in-s.ensures.1
 
 pub overflow_mul-scale : goal.overflow_mul-scale
 overflow_mul-scale c = omega (arith, product (goal.at.overflow_mul-scale c).After-step_in-s)
@@ -20,24 +19,21 @@ trimmed_of-x-requires c =
 
 pub returns-then-v-eq0 : goal.returns-then-v-eq0
 returns-then-v-eq0 c =
-    let s = c in
-    low_first s.args.f s.args.offsets.now s.args.caps.now s.args.v s.args.j s.requires.5.scale-is c.step_in-s.ensures.0
+    low_first c.args.f c.args.offsets.now c.args.caps.now c.args.v c.args.j c.requires.5.scale-is c.step_in-s.ensures.0
     c.trimmed_of-x.ensures c.if-v-eq0.true
 
 pub overflow_add-result : goal.overflow_add-result
 overflow_add-result c =
-    let s = c in
     omega (
       arith,
       product (goal.at.overflow_add-result c).After-step_in-s,
-      trimmed-most s.requires.0 _ s.args.j c.trimmed_of-x.ensures,
-      s.requires.1.offsets-le
-          s.args.j,
+      trimmed-most c.requires.0 _ c.args.j c.trimmed_of-x.ensures,
+      c.requires.1.offsets-le
+          c.args.j,
     )
 
 pub returns : goal.returns
 returns c =
-    let s = c in
-    low_other s.args.f s.args.offsets.now s.args.caps.now s.args.v s.args.j s.requires.5.scale-is
+    low_other c.args.f c.args.offsets.now c.args.caps.now c.args.v c.args.j c.requires.5.scale-is
     c.step_in-s.ensures.0
     c.trimmed_of-x.ensures c.if-v-eq0.false

@@ -8,7 +8,7 @@ use Rattle.rate_bands.proofs.band.scale_of.Goals as goal
 use Rattle.rate_bands.proofs.band.scale_of.Goals.{After-struct_known-1}
 
 wide : (c : After-struct_known-1) → c.args.f.c * c.args.w ≤ 44
-wide c = let s = c in mul-le-mul {n₂ = 2} {m₂ = 22} s.requires.0.c_le (width-le s.args.j s.requires.1)
+wide c = mul-le-mul {n₂ = 2} {m₂ = 22} c.requires.0.c_le (width-le c.args.j c.requires.1)
 
 all : (c : After-struct_known-1) → c.args.f.c * c.args.w * c.pow2-p.result ≤ 352
 all c = mul-le-mul {n₂ = 44} {m₂ = 8} (wide c) (power_le 3 c.pow2-p.ensures c.requires.0.lm-le)

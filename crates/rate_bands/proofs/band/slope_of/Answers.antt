@@ -10,8 +10,7 @@ use Rattle.rate_bands.proofs.band.slope_of.Goals.{After-struct_known-3-1}
 
 wide : (c : After-struct_known-3-1) → c.args.f.c * c.args.w ≤ 44
 wide c =
-    let s = c in
-    mul-le-mul {n₂ = 2} {m₂ = 22} s.requires.0.c_le (width-le s.args.j s.requires.2)
+    mul-le-mul {n₂ = 2} {m₂ = 22} c.requires.0.c_le (width-le c.args.j c.requires.2)
 
 above : (c : After-struct_known-3-1)
     → c.args.f.c * c.args.w

@@ -9,8 +9,7 @@ use Rattle.rate_bands.proofs.band.threshold_of.Goals.{After-pow2-p}
 
 product : (c : After-pow2-p) → 3 * c.args.w * c.pow2-p.result ≤ 528
 product c =
-    let s = c in
-    mul-le-mul {n₂ = 66} {m₂ = 8} (omega (arith, width-le s.args.j s.requires.1)) (power_le 3 c.pow2-p.ensures s.requires.0.lm-le)
+    mul-le-mul {n₂ = 66} {m₂ = 8} (omega (arith, width-le c.args.j c.requires.1)) (power_le 3 c.pow2-p.ensures c.requires.0.lm-le)
 
 pub overflow_mul-w : goal.overflow_mul-w
 overflow_mul-w c = omega (arith, width-le c.args.j c.requires.1)

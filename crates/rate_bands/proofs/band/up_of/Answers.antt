@@ -6,8 +6,7 @@ use Rattle.rate_bands.proofs.band.up_of.Goals as goal
 
 pub overflow_mul-result : goal.overflow_mul-result
 overflow_mul-result c =
-    let s = c in
-    omega (arith, tilt_le s.requires.0 {d = c.saturating_sub-d.result} s.args.j s.requires.1 (omega arith))
+    omega (arith, tilt_le c.requires.0 {d = c.saturating_sub-d.result} c.args.j c.requires.1 (omega arith))
 
 pub returns : goal.returns
 unfolding trim_up

@@ -20,10 +20,8 @@ returns-then-rest-cost c =
 
 pub returns : goal.returns
 returns c =
-    let at-bit-of = c in
-    let start = at-bit-of in
-    let a = bare start.args.f in
-    let p = at-bit-of.bit_of-skip.ensures.0 in
+    let a = bare c.args.f in
+    let p = c.bit_of-skip.ensures.0 in
     let q = c.fraction_of-cost.ensures.0 in
     let two : a.C ≡ 2 = omega arith in
     all_three a p two q (is-paid a p two q c.if-rest-cost.false) c.bit_of-dual.ensures.0

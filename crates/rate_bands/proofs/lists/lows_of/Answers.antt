@@ -16,20 +16,18 @@ loop-j-init c =
 
 pub loop-j-preserved : goal.loop-j-preserved
 loop-j-preserved c =
-    let l = c in
-    let a = l.args in
+    let a = c.args in
     let b = alloc_in a.f a.offsets.now a.caps.now in
-    let v = l.loop-j.invariant in
-    (omega arith, omega arith, fill-up (lower_bits b a.v) a.f.start l.loop-j.j a.lows.now v.0 v.2 c.low_of.ensures)
+    let v = c.loop-j.invariant in
+    (omega arith, omega arith, fill-up (lower_bits b a.v) a.f.start c.loop-j.j a.lows.now v.0 v.2 c.low_of.ensures)
 
 pub returns : goal.returns
 returns c =
     let l = c.loop-j in
-    let s = c in
-    let a = s.args in
+    let a = c.args in
     let i = alloc_in a.f a.offsets.now a.caps.now in
     let e : l.j ≡ a.f.end = omega arith in
     let h = rw e at l.invariant.2 in (
-      filled i (lower_bits i a.v) a.lows.now s.requires.0.end-le s.requires.5 h,
-      filled-length (lower_bits i a.v) (a.f.end - a.f.start) a.f.start a.lows.now h ∙ s.requires.5,
+      filled i (lower_bits i a.v) a.lows.now c.requires.0.end-le c.requires.5 h,
+      filled-length (lower_bits i a.v) (a.f.end - a.f.start) a.f.start a.lows.now h ∙ c.requires.5,
     )

@@ -17,26 +17,24 @@ loop-j-init c =
 
 pub loop-j-preserved : goal.loop-j-preserved
 loop-j-preserved c =
-    let l = c in
-    let a = l.args in
+    let a = c.args in
     let b = alloc_in a.f a.offsets.now a.caps.now in
-    let v = l.loop-j.invariant in
+    let v = c.loop-j.invariant in
     let low = c.low_of-low.ensures in (
       omega arith,
       omega arith,
-      fill-up (lower_bits b a.v) a.f.start l.loop-j.j a.lows.now v.0 v.2 low,
-      fill-up (gap b a.v) a.f.start l.loop-j.j a.gaps.now v.0 v.3
-          (gap_is a.f a.offsets.now a.caps.now a.v l.loop-j.j low c.high_of-high.ensures c.saturating_sub.ensures),
+      fill-up (lower_bits b a.v) a.f.start c.loop-j.j a.lows.now v.0 v.2 low,
+      fill-up (gap b a.v) a.f.start c.loop-j.j a.gaps.now v.0 v.3
+          (gap_is a.f a.offsets.now a.caps.now a.v c.loop-j.j low c.high_of-high.ensures c.saturating_sub.ensures),
     )
 
 pub returns : goal.returns
 returns c =
     let l = c.loop-j in
-    let s = c in
-    let a = s.args in
+    let a = c.args in
     let i = alloc_in a.f a.offsets.now a.caps.now in
     let e : l.j ≡ a.f.end = omega arith in
     record {
-      lows_are = filled i (lower_bits i a.v) a.lows.now s.requires.0.end-le s.requires.5 (rw e at l.invariant.2);
-      gaps_are = filled i (gap i a.v) a.gaps.now s.requires.0.end-le s.requires.6 (rw e at l.invariant.3);
+      lows_are = filled i (lower_bits i a.v) a.lows.now c.requires.0.end-le c.requires.5 (rw e at l.invariant.2);
+      gaps_are = filled i (gap i a.v) a.gaps.now c.requires.0.end-le c.requires.6 (rw e at l.invariant.3);
     }

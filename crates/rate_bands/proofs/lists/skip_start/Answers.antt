@@ -12,18 +12,15 @@ loop-j-init c = (omega arith, omega arith, refl)
 
 pub returns-then-offsets-j-gt0 : goal.returns-then-offsets-j-gt0
 returns-then-offsets-j-gt0 c =
-    let l = c in
-    let a = l.args in
-    sym (boost_here (alloc_in a.f a.offsets.now a.caps.now) l.loop-j.j (omega arith) c.if-offsets-j-gt0.true) ∙ l.loop-j.invariant.2
+    let a = c.args in
+    sym (boost_here (alloc_in a.f a.offsets.now a.caps.now) c.loop-j.j (omega arith) c.if-offsets-j-gt0.true) ∙ c.loop-j.invariant.2
 
 pub loop-j-preserved : goal.loop-j-preserved
 loop-j-preserved c =
-    let l = c in
-    let a = l.args in
-    (omega arith, omega arith, sym (boost_below (alloc_in a.f a.offsets.now a.caps.now) l.loop-j.j (omega arith) c.if-offsets-j-gt0.false) ∙ l.loop-j.invariant.2)
+    let a = c.args in
+    (omega arith, omega arith, sym (boost_below (alloc_in a.f a.offsets.now a.caps.now) c.loop-j.j (omega arith) c.if-offsets-j-gt0.false) ∙ c.loop-j.invariant.2)
 
 pub returns : goal.returns
 returns c =
-    let l = c in
-    let a = l.args in
-    sym (boost_none (alloc_in a.f a.offsets.now a.caps.now) l.loop-j.j (omega arith)) ∙ l.loop-j.invariant.2
+    let a = c.args in
+    sym (boost_none (alloc_in a.f a.offsets.now a.caps.now) c.loop-j.j (omega arith)) ∙ c.loop-j.invariant.2

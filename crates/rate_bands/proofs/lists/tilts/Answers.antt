@@ -20,14 +20,13 @@ loop-j-init c =
 
 pub loop-j-preserved : goal.loop-j-preserved
 loop-j-preserved c =
-    let l = c in
-    let a = l.args in
+    let a = c.args in
     let b = bare a.f in
-    let v = l.loop-j.invariant in (
+    let v = c.loop-j.invariant in (
       omega arith,
       omega arith,
-      fill-up (threshold b) a.f.start l.loop-j.j a.thresholds.now v.0 v.2 c.threshold_of.ensures,
-      fill-up (scale b) a.f.start l.loop-j.j a.scales.now v.0 v.3 c.scale_of.ensures,
-      fill-up (trim_up b) a.f.start l.loop-j.j a.ups.now v.0 v.4 c.up_of.ensures,
-      fill-up (trim_down b) a.f.start l.loop-j.j a.downs.now v.0 v.5 c.down_of.ensures,
+      fill-up (threshold b) a.f.start c.loop-j.j a.thresholds.now v.0 v.2 c.threshold_of.ensures,
+      fill-up (scale b) a.f.start c.loop-j.j a.scales.now v.0 v.3 c.scale_of.ensures,
+      fill-up (trim_up b) a.f.start c.loop-j.j a.ups.now v.0 v.4 c.up_of.ensures,
+      fill-up (trim_down b) a.f.start c.loop-j.j a.downs.now v.0 v.5 c.down_of.ensures,
     )

@@ -13,6 +13,5 @@ returns-then-pulses-eq0 c = let a = c.args in sym (cost_none a.start a.pulses c.
 pub returns : goal.returns
 unfolding row_entry
 returns c =
-    let p = c in
-    let a = p.args in
-    rw (c.eight_entries-w.ensures, entry_in (a.start + a.pulses) p.requires) (sym (cost_some a.start a.pulses (omega arith)))
+    let a = c.args in
+    rw (c.eight_entries-w.ensures, entry_in (a.start + a.pulses) c.requires) (sym (cost_some a.start a.pulses (omega arith)))

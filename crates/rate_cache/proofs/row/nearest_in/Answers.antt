@@ -9,45 +9,41 @@ use Rattle.rate_cache.proofs.row.nearest_in.Goals as goal
 
 pub loop-n-preserved-then-m-bits : goal.loop-n-preserved-then-m-bits
 loop-n-preserved-then-m-bits c =
-    let l = c in
-    let w = l.loop-n.invariant.0 in
-    let mid = (l.loop-n.lo + l.loop-n.hi + 1) / 2 in
-    let m = cost_some l.args.start mid (omega arith) in
-    let h = pow_half l.loop-n.n (omega arith) in (
-      low_up _ _ l.loop-n.lo l.loop-n.hi mid w (omega arith) (omega arith) (omega arith) (omega (arith, c.entry_in-m.ensures.0, c.if-m-bits.true, m)),
-      omega (arith, l.loop-n.invariant.1),
+    let w = c.loop-n.invariant.0 in
+    let mid = (c.loop-n.lo + c.loop-n.hi + 1) / 2 in
+    let m = cost_some c.args.start mid (omega arith) in
+    let h = pow_half c.loop-n.n (omega arith) in (
+      low_up _ _ c.loop-n.lo c.loop-n.hi mid w (omega arith) (omega arith) (omega arith) (omega (arith, c.entry_in-m.ensures.0, c.if-m-bits.true, m)),
+      omega (arith, c.loop-n.invariant.1),
     )
 
 pub loop-n-preserved : goal.loop-n-preserved
 loop-n-preserved c =
-    let l = c in
-    let w = l.loop-n.invariant.0 in
-    let mid = (l.loop-n.lo + l.loop-n.hi + 1) / 2 in
-    let m = cost_some l.args.start mid (omega arith) in
-    let h = pow_half l.loop-n.n (omega arith) in (
-      high_down _ _ l.loop-n.lo l.loop-n.hi mid w (omega arith) (omega arith) (omega arith)
+    let w = c.loop-n.invariant.0 in
+    let mid = (c.loop-n.lo + c.loop-n.hi + 1) / 2 in
+    let m = cost_some c.args.start mid (omega arith) in
+    let h = pow_half c.loop-n.n (omega arith) in (
+      high_down _ _ c.loop-n.lo c.loop-n.hi mid w (omega arith) (omega arith) (omega arith)
           (omega (arith, c.entry_in-m.ensures.0, c.if-m-bits.false, m)),
-      omega (arith, l.loop-n.invariant.1),
+      omega (arith, c.loop-n.invariant.1),
     )
 
 pub returns-then-bits-a : goal.returns-then-bits-a
 returns-then-bits-a c =
-    let l = c in
-    let p = l.requires in
-    let v = l.loop-n.invariant in
-    let z : l.loop-n.n ≡ 0 = omega arith in
-    let near : l.loop-n.hi ≤ l.loop-n.lo + 1 = rw z at v.1 in (
-      takes_low _ _ l.loop-n.lo l.loop-n.hi p.1 v.0 near (omega (arith, c.cost_in-b.ensures.0, c.cost_in-a.ensures.0)),
+    let p = c.requires in
+    let v = c.loop-n.invariant in
+    let z : c.loop-n.n ≡ 0 = omega arith in
+    let near : c.loop-n.hi ≤ c.loop-n.lo + 1 = rw z at v.1 in (
+      takes_low _ _ c.loop-n.lo c.loop-n.hi p.1 v.0 near (omega (arith, c.cost_in-b.ensures.0, c.cost_in-a.ensures.0)),
       omega (arith, v.0.order, v.0.inside, p.1.length_most),
     )
 
 pub returns-else-bits-a : goal.returns-else-bits-a
 returns-else-bits-a c =
-    let l = c in
-    let p = l.requires in
-    let v = l.loop-n.invariant in
-    let z : l.loop-n.n ≡ 0 = omega arith in
-    let near : l.loop-n.hi ≤ l.loop-n.lo + 1 = rw z at v.1 in (
-      takes-high _ _ l.loop-n.lo l.loop-n.hi p.1 v.0 near (omega (arith, c.cost_in-b.ensures.0, c.cost_in-a.ensures.0)),
+    let p = c.requires in
+    let v = c.loop-n.invariant in
+    let z : c.loop-n.n ≡ 0 = omega arith in
+    let near : c.loop-n.hi ≤ c.loop-n.lo + 1 = rw z at v.1 in (
+      takes-high _ _ c.loop-n.lo c.loop-n.hi p.1 v.0 near (omega (arith, c.cost_in-b.ensures.0, c.cost_in-a.ensures.0)),
       omega (arith, v.0.inside, p.1.length_most),
     )

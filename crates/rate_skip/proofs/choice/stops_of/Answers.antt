@@ -15,8 +15,7 @@ use Rattle.rate_skip.proofs.choice.stops_of.Goals.{After-pow2-p}
 -- at most 9 for each of the 22 coefficients that a band has at most, at LM 0
 wide : (c : After-pow2-p) → c.depth_of-depth.result * c.args.w ≤ 198
 wide c =
-    let s = c in
-    mul-le-mul {n₂ = 9} {m₂ = 22} c.depth_of-depth.ensures.1 (rw s.requires.3 (width-most (s.args.coded - 1)))
+    mul-le-mul {n₂ = 9} {m₂ = 22} c.depth_of-depth.ensures.1 (rw c.requires.3 (width-most (c.args.coded - 1)))
 
 -- and for each of the 8 times as many at LM 3
 deep : (c : After-pow2-p) → c.depth_of-depth.result * c.args.w * c.pow2-p.result ≤ 1584
@@ -38,13 +37,12 @@ overflow_mul-least-3 c = omega (arith, deep (goal.at.overflow_mul-least-3 c).Aft
 pub returns : goal.returns
 unfolding stops depth
 returns c =
-    let s = c in
-    let h : s.args.coded - 1 < 2147483648 = omega arith in
+    let h : c.args.coded - 1 < 2147483648 = omega arith in
     rw (
       lt-leb _ _ c.if-coded-f.false,
-      ← rw (to_z-of_z s.ranges.previous) at c.depth_of-depth.ensures.0,
-      ← s.requires.3,
+      ← rw (to_z-of_z c.ranges.previous) at c.depth_of-depth.ensures.0,
+      ← c.requires.3,
       ← c.pow2-p.ensures,
       to_z_pos w32 h,
-      to_z-of_z s.ranges.bandwidth,
+      to_z-of_z c.ranges.bandwidth,
     )

@@ -9,18 +9,16 @@ use Rattle.rate_skip.proofs.figures.left_of.Goals as goal
 
 pub overflow_add-result : goal.overflow_add-result
 overflow_add-result c =
-    let s = c in
-    omega (arith, reserved (bare s.args.f), s.requires.0.total-le, s.requires.1.skip_is, c.back_of.ensures.1)
+    omega (arith, reserved (bare c.args.f), c.requires.0.total-le, c.requires.1.skip_is, c.back_of.ensures.1)
 
 pub overflow_add-result-2 : goal.overflow_add-result-2
 overflow_add-result-2 c =
-    let s = c in
     omega (
       arith,
-      reserved (bare s.args.f),
-      s.requires.0.total-le,
-      s.requires.1.skip_is,
-      s.requires.1.dual-is,
+      reserved (bare c.args.f),
+      c.requires.0.total-le,
+      c.requires.1.skip_is,
+      c.requires.1.dual-is,
       c.back_of.ensures.1,
       c.back_of-2.ensures.1,
     )
@@ -28,6 +26,5 @@ overflow_add-result-2 c =
 pub returns : goal.returns
 unfolding left_of dual_asked
 returns c =
-    let s = c in
-    let skip : c.back_of.result ≡ cond s.args.stopped 0 s.args.k.skip = c.back_of.ensures.0 in
-    rw (skip, c.back_of-2.ensures.0, s.requires.1.skip_is, s.requires.1.dual-is)
+    let skip : c.back_of.result ≡ cond c.args.stopped 0 c.args.k.skip = c.back_of.ensures.0 in
+    rw (skip, c.back_of-2.ensures.0, c.requires.1.skip_is, c.requires.1.dual-is)

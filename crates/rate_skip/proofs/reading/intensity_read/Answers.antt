@@ -14,19 +14,17 @@ use Rattle.rate_skip.proofs.reading.intensity_read.Goals as goal
 pub returns-then-reserve-eq0 : goal.returns-then-reserve-eq0
 unfolding ask_intensity decoder_ask
 returns-then-reserve-eq0 c =
-    let s = c in
-    let h : s.args.reserve ≤ 0 = omega arith in
-    (rw (le-ltb 0 s.args.reserve h), omega arith, read_less 1 2 s.args.d (omega arith) s.requires.3)
+    let h : c.args.reserve ≤ 0 = omega arith in
+    (rw (le-ltb 0 c.args.reserve h), omega arith, read_less 1 2 c.args.d (omega arith) c.requires.3)
 
 pub returns : goal.returns
 unfolding ask_intensity decoder_ask
 returns c =
-    let s = c in
-    let a = s.args in
+    let a = c.args in
     let q = c.uniform-y.ensures in
     let n : ℕ = a.coded + 1 - a.f.start in
     let e : suc a.coded - a.f.start ≡ n = omega arith in (
       rw (lt-ltb 0 a.reserve (pos_of_ne-zero c.if-reserve-eq0.false), e, q),
       omega (arith, ap (λ (y : ReadSymbol). y.value) q, uint-value n a.s.now a.d (omega arith)),
-      rw q (below-read 1 n a.s.now a.d (omega arith) (omega arith) s.requires.3),
+      rw q (below-read 1 n a.s.now a.d (omega arith) (omega arith) c.requires.3),
     )

@@ -13,22 +13,18 @@ use Rattle.rate_skip.proofs.writing.intensity_write.Goals as goal
 pub returns-then-reserve-eq0 : goal.returns-then-reserve-eq0
 unfolding ask_intensity encoder_ask
 returns-then-reserve-eq0 c =
-    let s = c in
-    let h : s.args.reserve ≤ 0 = omega arith in
-    (rw (le-ltb 0 s.args.reserve h), omega arith, write_less 1 2 (wr s.args.w s.args.buf.now) (omega arith) s.requires.3)
+    let h : c.args.reserve ≤ 0 = omega arith in
+    (rw (le-ltb 0 c.args.reserve h), omega arith, write_less 1 2 (wr c.args.w c.args.buf.now) (omega arith) c.requires.3)
 
 pub returns : goal.returns
 unfolding ask_intensity encoder_ask
 returns c =
-    let p = c in
-    let v = p.written_of-v in
-    let k = p in
-    let s = k in
-    let a = s.args in
+    let v = c.written_of-v in
+    let a = c.args in
     let n : ℕ = a.coded + 1 - a.f.start in
     let e : suc a.coded - a.f.start ≡ n = omega arith in
     let g : n - 1 ≡ a.coded - a.f.start = omega arith in (
-      rw (lt-ltb 0 a.reserve (pos_of_ne-zero k.if-reserve-eq0.false), e, g, ← v.ensures.0) (paired (a.f.start + v.result) p.put_uint-next.ensures),
+      rw (lt-ltb 0 a.reserve (pos_of_ne-zero c.if-reserve-eq0.false), e, g, ← v.ensures.0) (paired (a.f.start + v.result) c.put_uint-next.ensures),
       omega (arith, v.ensures.1),
-      rw p.put_uint-next.ensures (below-write 1 n v.result (wr a.w a.buf.now) (omega arith) (omega arith) (omega (arith, v.ensures.1)) s.requires.3),
+      rw c.put_uint-next.ensures (below-write 1 n v.result (wr a.w a.buf.now) (omega arith) (omega arith) (omega (arith, v.ensures.1)) c.requires.3),
     )

@@ -8,13 +8,10 @@ use Rattle.rate_split.proofs.bands.split_bands.Goals as goal
 
 pub returns : goal.returns
 returns c =
-    let k = c in
-    let d = k in
-    let t = d in
-    let a = t.args in
-    let o = t.requires.split_in in
-    let e = d.split_coded-balance.ensures in
-    let s = k.split_skipped.ensures in (
+    let a = c.args in
+    let o = c.requires.split_in in
+    let e = c.split_coded-balance.ensures in
+    let s = c.split_skipped.ensures in (
       e.0,
       fill_parts _ _ _ a.f.start a.coded a.f.end a.pulses.now (omega arith) (omega arith)
           (λ i p. ap (λ (b : Band). pos b.pulses) (coded-is a.f a.caps.now a.bits.now a.coded a.left a.intensity a.dual a.kept.now

@@ -17,11 +17,10 @@ part_at : (c : After-part_of-p) →
     let a = l.args in
     CodedPart a.f a.caps.now a.bits.now a.coded a.left a.intensity a.dual l.loop-j.j c.part_of-p.result
 part_at c =
-    let l = c in
-    let a = l.args in
-    let v = l.loop-j.invariant in
-    coded-part a.f a.caps.now a.bits.now a.coded a.left a.intensity a.dual l.requires.split_in l.loop-j.j v.0 (omega arith)
-    l.share_of-g.ensures v.2 c.edge_of-hi.ensures.0 v.3 c.part_of-p.ensures.0
+    let a = c.args in
+    let v = c.loop-j.invariant in
+    coded-part a.f a.caps.now a.bits.now a.coded a.left a.intensity a.dual c.requires.split_in c.loop-j.j v.0 (omega arith)
+    c.share_of-g.ensures v.2 c.edge_of-hi.ensures.0 v.3 c.part_of-p.ensures.0
 
 pub loop-j-init : goal.loop-j-init
 loop-j-init c =
@@ -37,48 +36,43 @@ loop-j-init c =
 
 pub part_of-p-requires : goal.part_of-p-requires
 part_of-p-requires c =
-    let l = c in
-    let a = l.args in
-    let o = l.requires.split_in in
-    let v = l.loop-j.invariant in
+    let a = c.args in
+    let o = c.requires.split_in in
+    let v = c.loop-j.invariant in
     let h = c.edge_of-hi.ensures.0 in
-    let k : l.loop-j.j < a.coded = omega arith in (
+    let k : c.loop-j.j < a.coded = omega arith in (
       o.frame,
       omega (arith, o.frame),
       v.2,
       h,
-      above-first a.f a.caps.now a.bits.now a.coded a.left a.intensity a.dual o l.loop-j.j v.0 k l.share_of-g.ensures
+      above-first a.f a.caps.now a.bits.now a.coded a.left a.intensity a.dual o c.loop-j.j v.0 k c.share_of-g.ensures
           v.2 h v.3,
-      within a.f a.caps.now a.bits.now a.coded a.left a.intensity a.dual o l.loop-j.j v.0 k l.share_of-g.ensures v.2 h
+      within a.f a.caps.now a.bits.now a.coded a.left a.intensity a.dual o c.loop-j.j v.0 k c.share_of-g.ensures v.2 h
           v.3,
     )
 
 pub store-requires : goal.store-requires
 store-requires c =
-    let l = c in
     let t = part_at (goal.at.store-requires c).After-part_of-p in record {
       pulses_bound = (omega (arith, t.pulses-le), omega (arith, t.fine_le), omega (arith, c.part_of-p.ensures.1));
       j_in_bounds = (
-        omega (arith, filled-length _ _ _ _ l.loop-j.invariant.4),
-        omega (arith, filled-length _ _ _ _ l.loop-j.invariant.5),
-        omega (arith, filled-length _ _ _ _ l.loop-j.invariant.6),
+        omega (arith, filled-length _ _ _ _ c.loop-j.invariant.4),
+        omega (arith, filled-length _ _ _ _ c.loop-j.invariant.5),
+        omega (arith, filled-length _ _ _ _ c.loop-j.invariant.6),
       );
     }
 
 pub loop-j-preserved : goal.loop-j-preserved
 loop-j-preserved c =
-    let here = c in
-    let u = here in
-    let l = u in
     let t = part_at (goal.at.loop-j-preserved c).After-part_of-p in
-    let a = l.args in
-    let v = l.loop-j.invariant in
+    let a = c.args in
+    let v = c.loop-j.invariant in
     let s = c.store.ensures in (
       omega (arith, v.0),
-      omega (arith, u),
-      u.edge_of-hi.ensures.0,
+      omega (arith, c),
+      c.edge_of-hi.ensures.0,
       t.next,
-      s.0 ∙ fill-up _ a.f.start l.loop-j.j a.pulses.now v.0 v.4 (ap (λ (b : Band). pos b.pulses) t.part-is),
-      s.1 ∙ fill-up _ a.f.start l.loop-j.j a.fine.now v.0 v.5 (ap (λ (b : Band). pos b.fine) t.part-is),
-      s.2 ∙ fill-up _ a.f.start l.loop-j.j a.prios.now v.0 v.6 (ap (λ (b : Band). pos b.prio) t.part-is),
+      s.0 ∙ fill-up _ a.f.start c.loop-j.j a.pulses.now v.0 v.4 (ap (λ (b : Band). pos b.pulses) t.part-is),
+      s.1 ∙ fill-up _ a.f.start c.loop-j.j a.fine.now v.0 v.5 (ap (λ (b : Band). pos b.fine) t.part-is),
+      s.2 ∙ fill-up _ a.f.start c.loop-j.j a.prios.now v.0 v.6 (ap (λ (b : Band). pos b.prio) t.part-is),
     )

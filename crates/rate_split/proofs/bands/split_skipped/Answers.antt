@@ -13,15 +13,13 @@ loop-j-init c =
 
 pub loop-j-preserved : goal.loop-j-preserved
 loop-j-preserved c =
-    let at-skipped-of = c in
-    let l = at-skipped-of in
-    let e = at-skipped-of.skipped_of-p.ensures in
-    let a = l.args in
-    let v = l.loop-j.invariant in
+    let e = c.skipped_of-p.ensures in
+    let a = c.args in
+    let v = c.loop-j.invariant in
     let s = c.store.ensures in (
       omega arith,
       omega arith,
-      s.0 ∙ fill-up _ a.coded l.loop-j.j a.pulses.now v.0 v.2 (ap (λ (b : Band). pos b.pulses) e.0),
-      s.1 ∙ fill-up _ a.coded l.loop-j.j a.fine.now v.0 v.3 (ap (λ (b : Band). pos b.fine) e.0),
-      s.2 ∙ fill-up _ a.coded l.loop-j.j a.prios.now v.0 v.4 (ap (λ (b : Band). pos b.prio) e.0),
+      s.0 ∙ fill-up _ a.coded c.loop-j.j a.pulses.now v.0 v.2 (ap (λ (b : Band). pos b.pulses) e.0),
+      s.1 ∙ fill-up _ a.coded c.loop-j.j a.fine.now v.0 v.3 (ap (λ (b : Band). pos b.fine) e.0),
+      s.2 ∙ fill-up _ a.coded c.loop-j.j a.prios.now v.0 v.4 (ap (λ (b : Band). pos b.prio) e.0),
     )

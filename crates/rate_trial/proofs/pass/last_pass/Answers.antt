@@ -18,15 +18,13 @@ loop-j-init c =
 
 pub loop-j-preserved : goal.loop-j-preserved
 loop-j-preserved c =
-    let l = c in
-    let s = l in
-    let a = s.args in
+    let a = c.args in
     let x = point_bits a.lows.now a.gaps.now a.q in
     let low = c.loop-j-test.true in
-    let high = l.loop-j.invariant.0.1 in
-    let th = s.requires.2 (l.loop-j.j - 1) (omega (arith, low)) (omega (arith, low, high)) in
+    let high = c.loop-j.invariant.0.1 in
+    let th = c.requires.2 (c.loop-j.j - 1) (omega (arith, low)) (omega (arith, low, high)) in
     let t = c.between-x.ensures in
     let k = c.keep_of-kept.ensures in (
-      keep_on a.f a.caps.now x l.loop-j.j low th t l.loop-j.invariant.0 k.0 k.1,
-      bits_on a.f a.caps.now x l.loop-j.j low th t a.bits.now l.loop-j.invariant.0 k.0 l.loop-j.invariant.1,
+      keep_on a.f a.caps.now x c.loop-j.j low th t c.loop-j.invariant.0 k.0 k.1,
+      bits_on a.f a.caps.now x c.loop-j.j low th t a.bits.now c.loop-j.invariant.0 k.0 c.loop-j.invariant.1,
     )

@@ -8,38 +8,32 @@ use Rattle.rate_trial.proofs.search.vector_of.Goals as goal
 
 pub over_of-over-requires : goal.over_of-over-requires
 over_of-over-requires c =
-    let l = c in
-    let s = l in
-    let a = s.args in
-    let p = s.requires in (
+    let a = c.args in
+    let p = c.requires in (
       p.0,
       p.1.caps-le,
       p.2,
       p.4,
-      vector_ok a.f a.offsets.now a.caps.now p.0 p.1 ((l.loop-lo.lo + l.loop-lo.hi) / 2) _ c.lows_of.ensures.0,
+      vector_ok a.f a.offsets.now a.caps.now p.0 p.1 ((c.loop-lo.lo + c.loop-lo.hi) / 2) _ c.lows_of.ensures.0,
     )
 
 pub loop-lo-preserved-then-over : goal.loop-lo-preserved-then-over
 loop-lo-preserved-then-over c =
-    let l = c in
-    let s = l in
-    let a = s.args in
-    let p = s.requires in
+    let a = c.args in
+    let p = c.requires in
     let more = c.loop-lo-test.true in
     let lows = c.lows_of.ensures in
-    vector_on a.f a.offsets.now a.caps.now p.0 p.1 ((l.loop-lo.lo + l.loop-lo.hi) / 2) lows.0 lows.1 c.over_of-over.ensures
-    c.if-over.true (λ o. search_over _ 4 0 11 l.loop-lo.lo l.loop-lo.hi l.loop-lo.trials l.loop-lo.invariant.0 (omega (arith, more)) o)
+    vector_on a.f a.offsets.now a.caps.now p.0 p.1 ((c.loop-lo.lo + c.loop-lo.hi) / 2) lows.0 lows.1 c.over_of-over.ensures
+    c.if-over.true (λ o. search_over _ 4 0 11 c.loop-lo.lo c.loop-lo.hi c.loop-lo.trials c.loop-lo.invariant.0 (omega (arith, more)) o)
 
 pub loop-lo-preserved : goal.loop-lo-preserved
 loop-lo-preserved c =
-    let l = c in
-    let s = l in
-    let a = s.args in
-    let p = s.requires in
+    let a = c.args in
+    let p = c.requires in
     let more = c.loop-lo-test.true in
     let lows = c.lows_of.ensures in
-    vector_on a.f a.offsets.now a.caps.now p.0 p.1 ((l.loop-lo.lo + l.loop-lo.hi) / 2) lows.0 lows.1 c.over_of-over.ensures
-    c.if-over.false (λ o. search_under _ 4 0 11 l.loop-lo.lo l.loop-lo.hi l.loop-lo.trials l.loop-lo.invariant.0 (omega (arith, more)) o)
+    vector_on a.f a.offsets.now a.caps.now p.0 p.1 ((c.loop-lo.lo + c.loop-lo.hi) / 2) lows.0 lows.1 c.over_of-over.ensures
+    c.if-over.false (λ o. search_under _ 4 0 11 c.loop-lo.lo c.loop-lo.hi c.loop-lo.trials c.loop-lo.invariant.0 (omega (arith, more)) o)
 
 pub returns : goal.returns
 unfolding vector

@@ -11,19 +11,16 @@ use Rattle.rate_trial.proofs.settle.settle.Goals as goal
 
 pub choose-found-requires : goal.choose-found-requires
 choose-found-requires c =
-    let s = c in
-    let a = s.args in
-    let p = s.requires in
+    let a = c.args in
+    let p = c.requires in
     (p.0, p.1, p.2 ∙ sym (budget-bare a.f a.offsets.now a.caps.now), p.3, refl, refl)
 
 pub sixtyfourths_of-q-requires : goal.sixtyfourths_of-q-requires
 sixtyfourths_of-q-requires c =
-    let at-choose = c in
-    let s = at-choose in
-    let a = s.args in
-    let p = s.requires in
+    let a = c.args in
+    let p = c.requires in
     let b = bare a.f in
-    let r = at-choose.choose-found.ensures in (
+    let r = c.choose-found.ensures in (
       p.0,
       p.1,
       p.2 ∙ sym (budget-bare a.f a.offsets.now a.caps.now),
@@ -33,14 +30,11 @@ sixtyfourths_of-q-requires c =
 
 pub last_pass-sum-requires : goal.last_pass-sum-requires
 last_pass-sum-requires c =
-    let at-sixtyfourths = c in
-    let at-choose = at-sixtyfourths in
-    let s = at-choose in
-    let a = s.args in
-    let p = s.requires in
+    let a = c.args in
+    let p = c.requires in
     let b = bare a.f in
-    let r = at-choose.choose-found in
-    let q = at-sixtyfourths.sixtyfourths_of-q in (
+    let r = c.choose-found in
+    let q = c.sixtyfourths_of-q in (
       p.0,
       p.1.caps-le,
       filled b (threshold b) a.thresholds.now p.0.end-le p.3 r.ensures.2,
@@ -49,27 +43,21 @@ last_pass-sum-requires c =
 
 pub overflow_sub-result : goal.overflow_sub-result
 overflow_sub-result c =
-    let at-sixtyfourths = c in
-    let at-choose = at-sixtyfourths in
-    let s = at-choose in
-    let a = s.args in
-    let p = s.requires in
-    let r = at-choose.choose-found.ensures in
+    let a = c.args in
+    let p = c.requires in
+    let r = c.choose-found.ensures in
     omega (
       arith,
       p.2,
-      sum-within a.f a.offsets.now a.caps.now p.0 p.1 r.3 r.0 at-sixtyfourths.sixtyfourths_of-q.ensures.0 c.last_pass-sum.ensures.0,
+      sum-within a.f a.offsets.now a.caps.now p.0 p.1 r.3 r.0 c.sixtyfourths_of-q.ensures.0 c.last_pass-sum.ensures.0,
     )
 
 pub returns : goal.returns
 returns c =
-    let at-sixtyfourths = c in
-    let at-choose = at-sixtyfourths in
-    let s = at-choose in
-    let a = s.args in
-    let p = s.requires in
-    let r = at-choose.choose-found.ensures in
-    let q = at-sixtyfourths.sixtyfourths_of-q.ensures.0 in
+    let a = c.args in
+    let p = c.requires in
+    let r = c.choose-found.ensures in
+    let q = c.sixtyfourths_of-q.ensures.0 in
     let l = c.last_pass-sum.ensures in (
       left_is a.f a.offsets.now a.caps.now p.0 p.1 r.3 r.0 q l.0 p.2,
       r.1,

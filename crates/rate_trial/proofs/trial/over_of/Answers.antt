@@ -8,10 +8,9 @@ use Rattle.rate_trial.proofs.trial.over_of.Goals as goal
 pub returns : goal.returns
 unfolding over budget skip_reserve intensity_reserve dual_reserve stereo_fits
 returns c =
-    let s = c in
-    let a = s.args in
+    let a = c.args in
     rw (
-      s.requires.2,
+      c.requires.2,
       together a.f a.caps.now (point_bits a.lows.now a.gaps.now a.q) c.top_of-top.ensures
           c.rest_of-rest.ensures.0,
     )

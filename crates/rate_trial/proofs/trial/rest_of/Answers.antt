@@ -5,15 +5,12 @@ use Rattle.rate_trial.proofs.trial.rest_of.Goals as goal
 
 pub loop-j-init : goal.loop-j-init
 loop-j-init c =
-    let s = c in
-    let a = s.args in
-    rest-none a.f.start a.caps.now (point_bits a.lows.now a.gaps.now a.q) a.below s.requires.2
+    let a = c.args in
+    rest-none a.f.start a.caps.now (point_bits a.lows.now a.gaps.now a.q) a.below c.requires.2
 
 pub loop-j-preserved : goal.loop-j-preserved
 loop-j-preserved c =
-    let l = c in
-    let s = l in
-    let a = s.args in
-    rest_on a.f.start a.caps.now (point_bits a.lows.now a.gaps.now a.q) a.below l.loop-j.j
-    c.loop-j-test.true l.loop-j.invariant
-    c.between-x.ensures c.min32-sum.ensures (s.requires.1 l.loop-j.j)
+    let a = c.args in
+    rest_on a.f.start a.caps.now (point_bits a.lows.now a.gaps.now a.q) a.below c.loop-j.j
+    c.loop-j-test.true c.loop-j.invariant
+    c.between-x.ensures c.min32-sum.ensures (c.requires.1 c.loop-j.j)

@@ -19,14 +19,14 @@ abbrev called : Start → Call
 called p = let a = p.args in call a.d a.s.now a.number a.c a.lm a.start a.end a.intra
 
 -- the gate's number, in the contract's terms
-gated : (c : After-refusal-no) → let p = c in c.refusal-no.result ≡ refusal_frame p.args.self (called (goal.at.After-refusal-no c).Start)
+gated : (c : After-refusal-no) → c.refusal-no.result ≡ refusal_frame c.args.self (called (goal.at.After-refusal-no c).Start)
 unfolding refusal_frame
 gated c =
     let f = c.ranges in
     rw (to_z-of_z f.c, to_z-of_z f.lm, to_z-of_z f.start, to_z-of_z f.end, to_z-of_z f.intra) at c.refusal-no.ensures
 
 -- number 0
-passed : (c : Then-no-eq0) → let p = c in let a = p.args in
+passed : (c : Then-no-eq0) → let a = c.args in
     Open (length a.s.now) a.d true (numbers_ok a.self.next a.number a.c a.lm a.start a.end a.intra)
     (every finite a.self.energies) (order_of a.self.next a.number)
 unfolding refusal_frame
@@ -34,9 +34,8 @@ passed c = opened _ _ _ _ _ _ (sym (gated (goal.at.Then-no-eq0 c).After-refusal-
 
 pub apply-requires : goal.apply-requires
 apply-requires c =
-    let p = c in
-    let a = p.args in
-    let f = p.ranges in
+    let a = c.args in
+    let f = c.ranges in
     let o = passed (goal.at.apply-requires c).Then-no-eq0 in
     let k = known a.self.next a.number a.c a.lm a.start a.end a.intra o.known in (
       k.most,
@@ -46,14 +45,11 @@ apply-requires c =
 
 pub returns-then-no-eq0 : goal.returns-then-no-eq0
 returns-then-no-eq0 c =
-    let t = c in
-    let p = t in
-    let f = p.ranges in
-    answer-applied _ p.args.self (called (goal.at.returns-then-no-eq0 c).Start) (sym (gated (goal.at.returns-then-no-eq0 c).After-refusal-no) ∙ t.if-no-eq0.true)
+    let f = c.ranges in
+    answer-applied _ c.args.self (called (goal.at.returns-then-no-eq0 c).Start) (sym (gated (goal.at.returns-then-no-eq0 c).After-refusal-no) ∙ c.if-no-eq0.true)
     (rw (to_z-of_z f.c, to_z-of_z f.lm, to_z-of_z f.start, to_z-of_z f.end, to_z-of_z f.intra) at c.apply.ensures)
 
 pub returns-else-no-eq0 : goal.returns-else-no-eq0
 returns-else-no-eq0 c =
-    let p = c in
     let g = gated (goal.at.returns-else-no-eq0 c).After-refusal-no in
-    rw g (answer-refused _ p.args.self (called (goal.at.returns-else-no-eq0 c).Start) (rw g at c.if-no-eq0.false))
+    rw g (answer-refused _ c.args.self (called (goal.at.returns-else-no-eq0 c).Start) (rw g at c.if-no-eq0.false))

@@ -6,7 +6,6 @@ use Rattle.stream.proofs.gate.numbers_ok.Goals as goal
 pub returns : goal.returns
 unfolding numbers_ok
 returns c =
-    let k = c in
-    let f = k.ranges in
-    let e = rw (to_z-of_z f.c, to_z-of_z f.lm, to_z-of_z f.start, to_z-of_z f.end, to_z-of_z f.intra) at k.coarse_ok.ensures in
+    let f = c.ranges in
+    let e = rw (to_z-of_z f.c, to_z-of_z f.lm, to_z-of_z f.start, to_z-of_z f.end, to_z-of_z f.intra) at c.coarse_ok.ensures in
     rw (e, c.both_in_domain.ensures)

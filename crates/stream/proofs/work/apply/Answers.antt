@@ -6,18 +6,16 @@ use Rattle.stream.proofs.work.apply.Goals as goal
 
 pub coarse-next-requires : goal.coarse-next-requires
 coarse-next-requires c =
-    let t = c in
-    let p = t in
-    let f = p.ranges in
-    let b = coarse_in p.args.c p.args.lm p.args.start p.args.end p.args.intra p.requires.1 in record {
+    let f = c.ranges in
+    let b = coarse_in c.args.c c.args.lm c.args.start c.args.end c.args.intra c.requires.1 in record {
       bands_in = (
         rw (
-          rw (to_z-of_z f.c) at t.clipped-channels.ensures.0,
-          rw (to_z-of_z f.start) at t.place_of-from.ensures,
-          rw (to_z-of_z f.end) at t.place_of-to.ensures,
+          rw (to_z-of_z f.c) at c.clipped-channels.ensures.0,
+          rw (to_z-of_z f.start) at c.place_of-from.ensures,
+          rw (to_z-of_z f.end) at c.place_of-to.ensures,
         ) b.0,
-        rw (rw (to_z-of_z f.lm) at t.place_of-size.ensures) b.1,
+        rw (rw (to_z-of_z f.lm) at c.place_of-size.ensures) b.1,
         search rules,
       );
-      ready = p.requires.2;
+      ready = c.requires.2;
     }

@@ -15,10 +15,7 @@ store-requires c =
 
 pub returns-then-is_bytes : goal.returns-then-is_bytes
 returns-then-is_bytes c =
-    let at-if1 = c in
-    let at-is-bytes = at-if1 in
-    let start = at-is-bytes in
-    bytes-stored start.args.s.now start.args.out.now at-is-bytes.is_bytes.ensures at-if1.if-is_bytes.true c.store.ensures
+    bytes-stored c.args.s.now c.args.out.now c.is_bytes.ensures c.if-is_bytes.true c.store.ensures
 
 pub returns : goal.returns
 returns c = bytes-refused c.args.s.now c.args.out.now c.is_bytes.ensures

@@ -8,20 +8,16 @@ use Rattle.text.proofs.hex.store.Goals as goal
 
 pub byte-requires : goal.byte-requires
 byte-requires c =
-    let at-loop = c in
-    let start = at-loop in
-    let s = start.args.s.now in
-    let i = at-loop.loop-i.i in
-    let h = digit_at 16 s (2 * i) start.requires.1 (omega arith) in
-    let k = digit_at 16 s (2 * i + 1) start.requires.1 (omega arith) in
+    let s = c.args.s.now in
+    let i = c.loop-i.i in
+    let h = digit_at 16 s (2 * i) c.requires.1 (omega arith) in
+    let k = digit_at 16 s (2 * i + 1) c.requires.1 (omega arith) in
     (omega (arith, c.digit-a.ensures.0), omega (arith, c.digit-b.ensures.0))
 
 pub loop-i-preserved : goal.loop-i-preserved
 loop-i-preserved c =
-    let at-loop = c in
-    let start = at-loop in
-    let s = start.args.s.now in
-    let l = at-loop.loop-i in (
+    let s = c.args.s.now in
+    let l = c.loop-i in (
       omega arith,
       refl,
       simp length-set l.invariant.2,

@@ -15,12 +15,8 @@ returns-then-b-eq10 c =
 
 pub loop-i-preserved : goal.loop-i-preserved
 loop-i-preserved c =
-    let at-if1 = c in
-    let at-loop-test = at-if1 in
-    let at-loop = at-loop-test in
-    let start = at-loop in
-    let a = start.args in
-    let l = at-loop.loop-i in
+    let a = c.args in
+    let l = c.loop-i in
     let p = c.push-k in
     let s = a.block.now in (
       p.auto.buf ∙ l.invariant.0,
@@ -28,6 +24,6 @@ loop-i-preserved c =
       omega arith,
       omega arith,
       same-after-byte (length a.buf.now) (take l.k l.buf) (take a.n a.buf.now) s l.i a.at p.ensures.0 l.invariant.0
-          at-loop-test.loop-i-test.true
-          at-if1.if-b-eq10.false l.invariant.4,
+          c.loop-i-test.true
+          c.if-b-eq10.false l.invariant.4,
     )

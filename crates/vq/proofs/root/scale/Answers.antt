@@ -7,6 +7,5 @@ use Rattle.vq.proofs.root.scale.Goals as goal
 
 pub returns : goal.returns
 returns c =
-    let b = c in
-    let d = digits b.args.n b.requires (omega (arith, b.ranges.n)) in
-    rw c.ilog.ensures.0 (shifted b.args.n (ilog b.args.n) d.digits-pos d.digits_le d.from d.to)
+    let d = digits c.args.n c.requires (omega (arith, c.ranges.n)) in
+    rw c.ilog.ensures.0 (shifted c.args.n (ilog c.args.n) d.digits-pos d.digits_le d.from d.to)

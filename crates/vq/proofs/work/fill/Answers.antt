@@ -18,13 +18,11 @@ loop-i-init c = (omega arith, refl, refl)
 pub loop-i-preserved : goal.loop-i-preserved
 unfolding scaled
 loop-i-preserved c =
-    let p = c in
-    let b = p in
-    let l = p.loop-i in
-    let g = b.args.g in
-    let f : SFits w32 (get_or b.args.iy.now l.i (pos 0)) = record { sfits = c.y-1.given } in (
+    let l = c.loop-i in
+    let g = c.args.g in
+    let f : SFits w32 (get_or c.args.iy.now l.i (pos 0)) = record { sfits = c.y-1.given } in (
       omega arith,
       length-set l.x l.i (mul binary32 g c.whole.result) ∙ l.invariant.1,
-      map-up (λ (y : ℤ). mul binary32 g (of_int binary32 y)) l.x b.args.iy.now l.i (pos 0) (omega arith) (omega arith) l.invariant.2
+      map-up (λ (y : ℤ). mul binary32 g (of_int binary32 y)) l.x c.args.iy.now l.i (pos 0) (omega arith) (omega arith) l.invariant.2
           (ap (λ (y : Float). mul binary32 g y) (c.whole.ensures ∙ ap (λ (z : ℤ). of_int binary32 z) (to_z-of_z f))),
     )

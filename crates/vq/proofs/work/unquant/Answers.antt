@@ -7,13 +7,10 @@ use Rattle.vq.proofs.work.unquant.Goals.{After-decode-f}
 -- the vector, and where it stands
 read : (c : After-decode-f) → let a = c.args in Vector a.n (read_word a.n a.k a.s.now a.d)
 read c =
-    let b = c in
-    let p = b.requires.le_n in
-    read_vector b.args.n b.args.k b.args.s.now b.args.d p.0 p.3 p.4
+    let p = c.requires.le_n in
+    read_vector c.args.n c.args.k c.args.s.now c.args.d p.0 p.3 p.4
 
 pub normalise_residual-requires : goal.normalise_residual-requires
 normalise_residual-requires c =
-    let d = c in
-    let b = d in
-    let a = b.args in
-    can_shape a.n a.k a.s.now a.d _ d.decode-f.ensures.0 d.decode-f.ensures.1 (read (goal.at.normalise_residual-requires c).After-decode-f) b.requires.le_n.2
+    let a = c.args in
+    can_shape a.n a.k a.s.now a.d _ c.decode-f.ensures.0 c.decode-f.ensures.1 (read (goal.at.normalise_residual-requires c).After-decode-f) c.requires.le_n.2
