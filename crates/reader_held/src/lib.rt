@@ -1,6 +1,6 @@
 // A reader that holds the packet's bytes and its place in them, over the calls that take a state by value.
-// Document 01, "Use these forms in these places". The names are the crate's; each function changes the reader that it is lent. Each is proved by a
-// walk of its MIR, which tools/walks writes; what branches stands in `moves`, and `plain` is for callers that hold no reader.
+// Document 01, "Use these forms in these places". The names are the crate's; each function changes the reader that it is lent. What
+// branches stands in `moves`, and `plain` is for callers that hold no reader.
 #![tactic(auto)]
 
 ghost use Rattle.std.specs.Prelude.{◌≡◌};

@@ -1,5 +1,4 @@
-// For callers that hold no reader: each makes one of a packet and its numbers, reads, and hands the answer and the next numbers back. A caller of
-// these needs no walk.
+// For callers that hold no reader: each makes one of a packet and its numbers, reads, and hands the answer and the next numbers back.
 ghost use Rattle.std.specs.Prelude.{◌≡◌};
 ghost use Rattle.entcode.specs.Sym.Shape.{bit, table, uint, raw};
 ghost use Rattle.entdec.specs.Answer.{start_of};
