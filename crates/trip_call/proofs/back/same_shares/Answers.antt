@@ -6,21 +6,16 @@ use Rattle.trip_call.proofs.back.same_shares.Goals as goal
 pub returns-in-Done : goal.returns-in-Done
 unfolding no_entries
 returns-in-Done c =
-    let at-answer = c in
-    let called = at-answer in
-    let start = called in
-    let a = start.args in
-    let k = called.clt_compute_allocation_read-answer in
+    let a = c.args in
+    let k = c.clt_compute_allocation_read-answer in
     shares-done a.q a.offsets.now a.caps.now a.y (lists a.pulses.now a.fine.now a.priorities.now) a.s.now a.e
-    (lists k.new.pulses k.new.fine k.new.priorities) k.ensures at-answer.clt_compute_allocation_read-answer.given.0.0
-    at-answer.answer-1.given.1 c.same_answers.ensures
+    (lists k.new.pulses k.new.fine k.new.priorities) k.ensures c.in-Done.x
+    c.in-Done.is c.same_answers.ensures
 
 pub returns-in-Refused : goal.returns-in-Refused
 unfolding no_entries
 returns-in-Refused c =
-    let called = c in
-    let start = called in
-    let a = start.args in
-    let k = called.clt_compute_allocation_read-answer in
+    let a = c.args in
+    let k = c.clt_compute_allocation_read-answer in
     shares_no a.q a.offsets.now a.caps.now a.y (lists a.pulses.now a.fine.now a.priorities.now) a.s.now a.e
-    (lists k.new.pulses k.new.fine k.new.priorities) k.ensures c.enum_told-1.given.1
+    (lists k.new.pulses k.new.fine k.new.priorities) k.ensures c.in-Refused.is

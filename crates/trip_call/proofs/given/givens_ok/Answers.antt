@@ -3,7 +3,6 @@ use Prim.Native.Nat.{◌/◌}
 use mathlib.Core.Path.{◌∙◌}
 use native.Mathlib.Omega.{arith}
 use lib.ListN.{length}
-use borrow.Author.Tests.{not-false, not-true}
 use Rattle.trip_call.proofs.Checking.{check_all, check_end, check_no, check_on}
 use Rattle.trip_call.proofs.given.givens_ok.Goals as goal
 
@@ -12,7 +11,7 @@ returns-then-not-given_ok c =
     let a = c.args in
     let k = c.loop-i in
     check_no a.symbols.now a.room _ k.i k.invariant.2 c.loop-i-test.true c.given_at-g.ensures
-    c.given_ok.ensures (not-true _ c.if-not-given_ok.true)
+    c.given_ok.ensures c.if-not-given_ok.true
     ∙ check_all a.symbols.now a.room (length a.symbols.now / 5)
 
 pub loop-i-preserved : goal.loop-i-preserved
@@ -22,7 +21,7 @@ loop-i-preserved c =
       k.invariant.0,
       omega arith,
       check_on a.symbols.now a.room _ k.i k.invariant.2 c.loop-i-test.true
-          c.given_at-g.ensures c.given_ok.ensures (not-false _ c.if-not-given_ok.false),
+          c.given_at-g.ensures c.given_ok.ensures c.if-not-given_ok.false,
     )
 
 pub returns : goal.returns

@@ -8,9 +8,7 @@ returns-then-g-eq0 c = let a = c.args in read-bit a.g a.s.now a.d a.tables.now
 
 pub returns-then-g-eq1 : goal.returns-then-g-eq1
 returns-then-g-eq1 c =
-    let at-if1 = c in
-    let start = at-if1 in
-    let a = start.args in read_table a.g a.s.now a.d a.tables.now at-if1.if-g-eq0.false c.if-g-eq1.true
+    let a = c.args in read_table a.g a.s.now a.d a.tables.now c.if-g-eq0.false c.if-g-eq1.true
     c.entries-t.ensures c.icdf-answer.ensures c.plain-then-g-eq1.ensures
 
 pub returns : goal.returns

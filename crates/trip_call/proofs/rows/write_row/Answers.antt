@@ -9,37 +9,28 @@ use Rattle.trip_call.proofs.rows.write_row.Goals as goal
 
 pub loop-i-preserved : goal.loop-i-preserved
 loop-i-preserved c =
-    let at-write-one = c in
-    let at-given-at = at-write-one in
-    let at-loop-test = at-given-at in
-    let p = at-loop-test in
-    let a = p.args in
-    let k = p.loop-i in (
+    let a = c.args in
+    let k = c.loop-i in (
       k.invariant.0,
       omega arith,
-      at-write-one.write_one-answer.auto.buf ∙ k.invariant.2,
-      run_on a.symbols.now a.tables.now _ k.i (wr k.v k.buf) at-write-one.write_one-answer.result at-write-one.write_one-answer.new.buf
-          at-loop-test.loop-i-test.true at-given-at.given_at-g.ensures
-          at-write-one.write_one-answer.ensures k.invariant.3 c.write_one-answer.given.0.0 c.answer-1.given.1,
+      c.write_one-answer.auto.buf ∙ k.invariant.2,
+      run_on a.symbols.now a.tables.now _ k.i (wr k.v k.buf) c.write_one-answer.result c.write_one-answer.new.buf
+          c.loop-i-test.true c.given_at-g.ensures
+          c.write_one-answer.ensures k.invariant.3 c.in-Done.y c.in-Done.is,
     )
 
 pub returns-in-Refused : goal.returns-in-Refused
 returns-in-Refused c =
-    let at-write-one = c in
-    let at-given-at = at-write-one in
-    let at-loop-test = at-given-at in
-    let p = at-loop-test in
-    let a = p.args in
-    let k = p.loop-i in
-    run_no a.symbols.now a.tables.now _ k.i (wr k.v k.buf) at-write-one.write_one-answer.result at-write-one.write_one-answer.new.buf
-    at-loop-test.loop-i-test.true at-given-at.given_at-g.ensures
-    at-write-one.write_one-answer.ensures k.invariant.3 c.in-Refused.given.1 ∙ run-all a.symbols.now a.tables.now (length a.symbols.now / 5)
+    let a = c.args in
+    let k = c.loop-i in
+    run_no a.symbols.now a.tables.now _ k.i (wr k.v k.buf) c.write_one-answer.result c.write_one-answer.new.buf
+    c.loop-i-test.true c.given_at-g.ensures
+    c.write_one-answer.ensures k.invariant.3 c.in-Refused.is ∙ run-all a.symbols.now a.tables.now (length a.symbols.now / 5)
     (wr a.w a.buf.now)
 
 pub returns : goal.returns
 returns c =
-    let p = c in
-    let a = p.args in
-    let k = p.loop-i in
+    let a = c.args in
+    let k = c.loop-i in
     run_end a.symbols.now a.tables.now _ k.i (wr k.v k.buf) c.loop-i-test.false k.invariant.3 ∙ run-all a.symbols.now a.tables.now
     (length a.symbols.now / 5) (wr a.w a.buf.now)

@@ -10,25 +10,20 @@ use Rattle.trip_call.proofs.sends.allot.Goals as goal
 pub returns-in-Done : goal.returns-in-Done
 unfolding no_entries
 returns-in-Done c =
-    let at-answer = c in
-    let called = at-answer in
-    let start = called in
-    let a = start.args in
+    let a = c.args in
     allot-done a.q a.h a.offsets.now a.caps.now (wr a.v a.buf.now)
-    (lists called.clt_compute_allocation_write-answer.new.pulses called.clt_compute_allocation_write-answer.new.fine
-    called.clt_compute_allocation_write-answer.new.priorities) called.clt_compute_allocation_write-answer.ensures
+    (lists c.clt_compute_allocation_write-answer.new.pulses c.clt_compute_allocation_write-answer.new.fine
+    c.clt_compute_allocation_write-answer.new.priorities) c.clt_compute_allocation_write-answer.ensures
     (agrees a.q a.offsets.now a.caps.now (symbols_of a.symbols.now a.tables.now) a.w
-    (write_all (symbols_of a.symbols.now a.tables.now) (wr a.w a.bytes.now))) at-answer.clt_compute_allocation_write-answer.given.0.0 at-answer.answer-1.given.1
+    (write_all (symbols_of a.symbols.now a.tables.now) (wr a.w a.bytes.now))) c.in-Done.y c.in-Done.is
     c.shut.ensures
 
 pub returns-in-Refused : goal.returns-in-Refused
 unfolding no_entries
 returns-in-Refused c =
-    let called = c in
-    let start = called in
-    let a = start.args in
+    let a = c.args in
     allot-refused a.q a.h a.offsets.now a.caps.now (wr a.v a.buf.now)
-    (lists called.clt_compute_allocation_write-answer.new.pulses called.clt_compute_allocation_write-answer.new.fine
-    called.clt_compute_allocation_write-answer.new.priorities) called.clt_compute_allocation_write-answer.ensures
+    (lists c.clt_compute_allocation_write-answer.new.pulses c.clt_compute_allocation_write-answer.new.fine
+    c.clt_compute_allocation_write-answer.new.priorities) c.clt_compute_allocation_write-answer.ensures
     (agrees a.q a.offsets.now a.caps.now (symbols_of a.symbols.now a.tables.now) a.w
-    (write_all (symbols_of a.symbols.now a.tables.now) (wr a.w a.bytes.now))) c.in-Refused.given.1
+    (write_all (symbols_of a.symbols.now a.tables.now) (wr a.w a.bytes.now))) c.in-Refused.is

@@ -9,26 +9,19 @@ use Rattle.trip_call.proofs.sends.send.Goals as goal
 
 pub returns-in-Done : goal.returns-in-Done
 returns-in-Done c =
-    let at_row = c in
-    let at-write-row = at_row in
-    let at_copy = at-write-row in
-    let start = at_copy in
-    let a = start.args in
-    let r = rows_wrote a.symbols.now a.tables.now a.bytes.now a.w at-write-row.write_row-row.result at-write-row.write_row-row.new.buf
-    at_copy.copy.ensures at-write-row.write_row-row.ensures at_row.write_row-row.given.0.0 at_row.row-1.given.1 in
+    let a = c.args in
+    let r = rows_wrote a.symbols.now a.tables.now a.bytes.now a.w c.write_row-row.result c.write_row-row.new.buf
+    c.copy.ensures c.write_row-row.ensures c.in-Done.v c.in-Done.is in
     row_done a.q a.h a.offsets.now a.caps.now
     (agrees a.q a.offsets.now a.caps.now (symbols_of a.symbols.now a.tables.now)) a.w
     (write_all (symbols_of a.symbols.now a.tables.now) (wr a.w a.bytes.now))
-    (wr at_row.row-1.given.0.0 at-write-row.write_row-row.new.buf) r.zs r.is c.allot.ensures
+    (wr c.in-Done.v c.write_row-row.new.buf) r.zs r.is c.allot.ensures
 
 pub returns-in-Refused : goal.returns-in-Refused
 returns-in-Refused c =
-    let at-write-row = c in
-    let at_copy = at-write-row in
-    let start = at_copy in
-    let a = start.args in
+    let a = c.args in
     row_no a.q a.h a.offsets.now a.caps.now
     (agrees a.q a.offsets.now a.caps.now (symbols_of a.symbols.now a.tables.now)) a.w
     (write_all (symbols_of a.symbols.now a.tables.now) (wr a.w a.bytes.now)) _ _
-    (rows_refused a.symbols.now a.tables.now a.bytes.now a.w at-write-row.write_row-row.result at-write-row.write_row-row.new.buf
-    at_copy.copy.ensures at-write-row.write_row-row.ensures _ _ c.in-Refused.given.1)
+    (rows_refused a.symbols.now a.tables.now a.bytes.now a.w c.write_row-row.result c.write_row-row.new.buf
+    c.copy.ensures c.write_row-row.ensures _ _ c.in-Refused.is)

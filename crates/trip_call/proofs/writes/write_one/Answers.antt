@@ -5,23 +5,14 @@ use Rattle.trip_call.proofs.writes.write_one.Goals as goal
 
 pub returns-then-g-eq0 : goal.returns-then-g-eq0
 returns-then-g-eq0 c =
-    let at-if1 = c in
-    let start = at-if1 in
-    let a = start.args in wrote-bit a.g (wr a.w a.buf.now) a.tables.now at-if1.if-g-eq0.true c.bit_logp-answer.ensures
+    let a = c.args in wrote-bit a.g (wr a.w a.buf.now) a.tables.now c.if-g-eq0.true c.bit_logp-answer.ensures
     c.plain.ensures
 
 pub returns-then-g-eq1 : goal.returns-then-g-eq1
 returns-then-g-eq1 c =
-    let at-entries = c in
-    let at-if2 = at-entries in
-    let at-if1 = at-if2 in
-    let start = at-if1 in
-    let a = start.args in wrote-table a.g (wr a.w a.buf.now) a.tables.now at-if1.if-g-eq0.false at-if2.if-g-eq1.true
-    at-entries.entries-t.ensures c.icdf-answer.ensures c.plain-then-g-eq1.ensures
+    let a = c.args in wrote-table a.g (wr a.w a.buf.now) a.tables.now c.if-g-eq0.false c.if-g-eq1.true
+    c.entries-t.ensures c.icdf-answer.ensures c.plain-then-g-eq1.ensures
 
 pub returns : goal.returns
 returns c =
-    let at-if2 = c in
-    let at-if1 = at-if2 in
-    let start = at-if1 in
-    let a = start.args in rw (of_later a.g a.tables.now at-if1.if-g-eq0.false at-if2.if-g-eq1.false) c.write_later.ensures
+    let a = c.args in rw (of_later a.g a.tables.now c.if-g-eq0.false c.if-g-eq1.false) c.write_later.ensures
