@@ -101,6 +101,10 @@ class Idle(unittest.TestCase):
         src = "ghost use A.{x, y};\nuse b::{Word, gate};\n// gate::f()\npub fn f(w: Word)\n    ensures { x }\n{\n    let y = 1;\n}\n"
         self.assertEqual([name for _, name in idle({("a", "src", "lib"): src})], ["y", "gate"])
 
+    def test_a_trait_of_std_is_used_without_its_name(self):
+        src = "use std::io::{Read, Stdin, Stdout};\nuse b::Write;\npub fn f(i: Stdin) {\n    i.read();\n}\n"
+        self.assertEqual([name for _, name in idle({("a", "src", "lib"): src})], ["Stdout", "Write"])
+
 
 if __name__ == "__main__":
     unittest.main()
