@@ -3,13 +3,13 @@ use Prim.Native.Nat.{ℕ}
 use Rattle.cwrs.proofs.Said.{said_same as cwrs_said_same}
 use Rattle.cwrs.specs.Answer.{AfterRead, after_read, reading, writing}
 use Rattle.cwrs.specs.declared.Decoded.{Decoded}
-use Rattle.cwrs.specs.declared.WriteAnswer.{WriteAnswer}
-use Rattle.cwrs.specs.declared.Writer.{Writer}
 use Rattle.decided.proofs.One.{one}
 use Rattle.entdec.specs.declared.Reader.{Reader}
 use Rattle.entenc.proofs.Said.{said_same as entenc_said_same}
 use Rattle.entenc.specs.Answer.{After, after}
 use Rattle.entenc.specs.Write.{wr}
+use Rattle.entenc.specs.declared.WriteAnswer.{WriteAnswer}
+use Rattle.entenc.specs.declared.Writer.{Writer}
 use Rattle.std.specs.Prelude.{◌≡◌}
 use lib.IntN.{ℤ}
 use mathlib.Core.List.{List}

@@ -3,16 +3,15 @@ use Rattle.decided.proofs.One.{one}
 use Rattle.rate_cache.proofs.Said.{said_same as rate_cache_said_same}
 use Rattle.rate_cache.specs.Answers.{said}
 use Rattle.rate_cache.specs.Lookups.{bits_to_pulses, pulses_at, pulses_to_bits}
-use Rattle.rate_cache.specs.Pulses.{get_pulses}
 use Rattle.rate_cache.specs.declared.LookupAnswer.{LookupAnswer}
 use Rattle.std.specs.Prelude.{◌≡◌}
 use lib.IntN.{ℤ}
 
 -- get_pulses
-pub get_pulses : (i : ℤ) (r₁ r₂ : LookupAnswer)
+pub get_pulses_decided : (i : ℤ) (r₁ r₂ : LookupAnswer)
     → said r₁ ≡ pulses_at i → said r₂ ≡ pulses_at i
     → r₁ ≡ r₂
-get_pulses i r₁ r₂ e₁ e₂ =
+get_pulses_decided i r₁ r₂ e₁ e₂ =
     rate_cache_said_same (one e₁ e₂)
 
 -- bits2pulses

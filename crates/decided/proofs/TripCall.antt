@@ -2,13 +2,13 @@
 use Prim.Native.Nat.{ℕ}
 use Rattle.decided.proofs.One.{one}
 use Rattle.entcode.specs.Said.{answer}
+use Rattle.rate.specs.declared.AllocNumbers.{AllocNumbers}
+use Rattle.rate.specs.declared.Wishes.{Wishes}
 use Rattle.std.specs.Prelude.{◌≡◌}
 use Rattle.trip_call.proofs.Said.{said_same as trip_call_said_same}
 use Rattle.trip_call.specs.Given.{refusal_given, symbols_of}
 use Rattle.trip_call.specs.Outcome.{outcome_of, said}
-use Rattle.trip_call.specs.declared.AllocNumbers.{AllocNumbers}
 use Rattle.trip_call.specs.declared.Trip.{Trip}
-use Rattle.trip_call.specs.declared.Wishes.{Wishes}
 use lib.IntN.{ℤ}
 use mathlib.Core.List.{List}
 
