@@ -1,7 +1,7 @@
 // Answers of rate.
 ghost use Rattle.std.specs.Prelude.{◌≡◌, length};
 ghost use Rattle.rate.specs.Answer.{said_read, said_wrote};
-ghost use Rattle.gurthapen_answer.specs.Result.{result, result_of};
+ghost use Rattle.gurthapen_answer.specs.Result as answer;
 ghost use Rattle.gurthapen_answer.specs.Allocation.{four, lists_read, lists_wrote};
 
 use gurthapen_state::store::{store_reader, store_writer};
@@ -10,7 +10,7 @@ use rate::{AllocRead, AllocWrote};
 // The four numbers of an allocation into a list.
 fn put_four(shown: &mut [i32], coded: i32, balance: i32, intensity: i32, dual: i32)
     requires { length shown.old ≡ 4 }
-    ensures* { λ _. ⌜ shown.new ≡ four coded balance intensity dual ⌝ }
+    ensures { shown.new ≡ four coded balance intensity dual }
 {
     shown[0] = coded;
     shown[1] = balance;
@@ -21,7 +21,7 @@ fn put_four(shown: &mut [i32], coded: i32, balance: i32, intensity: i32, dual: i
 // What reading leaves beside the lists of the bands.
 pub fn leave_alloc_read(a: AllocRead, state: &mut [i64], shown: &mut [i32]) -> u32
     requires { (length state.old ≡ 12) × (length shown.old ≡ 4) }
-    ensures* { λ r. ⌜ result r (state.new, shown.new) ≡ result_of (lists_read (said_read a)) (state.old, shown.old) ⌝ }
+    ensures { answer.result result (state.new, shown.new) ≡ answer.result_of (lists_read (said_read a)) (state.old, shown.old) }
 {
     match a {
         AllocRead::Done(y) => {
@@ -36,7 +36,7 @@ pub fn leave_alloc_read(a: AllocRead, state: &mut [i64], shown: &mut [i32]) -> u
 // What writing leaves beside the lists of the bands and the bytes.
 pub fn leave_alloc_write(a: AllocWrote, state: &mut [i64], shown: &mut [i32]) -> u32
     requires { (length state.old ≡ 12) × (length shown.old ≡ 4) }
-    ensures* { λ r. ⌜ result r (state.new, shown.new) ≡ result_of (lists_wrote (said_wrote a)) (state.old, shown.old) ⌝ }
+    ensures { answer.result result (state.new, shown.new) ≡ answer.result_of (lists_wrote (said_wrote a)) (state.old, shown.old) }
 {
     match a {
         AllocWrote::Done(y) => {

@@ -2,7 +2,7 @@
 ghost use Rattle.std.specs.Prelude.{◌≡◌, length};
 ghost use Rattle.entcode.specs.Counts.{said_tell};
 ghost use Rattle.entdec.specs.Answer.{said, said_start};
-ghost use Rattle.gurthapen_answer.specs.Result.{result, result_of, lists_number};
+ghost use Rattle.gurthapen_answer.specs.Result as answer;
 ghost use Rattle.gurthapen_answer.specs.Dec.{lists_reader, lists_read};
 
 use entcode::TellAnswer;
@@ -12,7 +12,7 @@ use gurthapen_state::store::store_reader;
 // What a start leaves.
 pub fn leave_start(a: Started, state: &mut [i64]) -> u32
     requires { length state.old ≡ 12 }
-    ensures* { λ r. ⌜ result r state.new ≡ result_of (lists_reader (said_start a)) state.old ⌝ }
+    ensures { answer.result result state.new ≡ answer.result_of (lists_reader (said_start a)) state.old }
 {
     match a {
         Started::Done(d) => {
@@ -26,7 +26,7 @@ pub fn leave_start(a: Started, state: &mut [i64]) -> u32
 // What a read leaves.
 pub fn leave_read(a: ReadAnswer, state: &mut [i64], value: &mut [u32]) -> u32
     requires { (length state.old ≡ 12) × (length value.old ≡ 1) }
-    ensures* { λ r. ⌜ result r (state.new, value.new) ≡ result_of (lists_read (said a)) (state.old, value.old) ⌝ }
+    ensures { answer.result result (state.new, value.new) ≡ answer.result_of (lists_read (said a)) (state.old, value.old) }
 {
     match a {
         ReadAnswer::Done(y) => {
@@ -41,7 +41,7 @@ pub fn leave_read(a: ReadAnswer, state: &mut [i64], value: &mut [u32]) -> u32
 // What tell leaves.
 pub fn leave_tell(t: TellAnswer, value: &mut [u32]) -> u32
     requires { length value.old ≡ 1 }
-    ensures* { λ r. ⌜ result r value.new ≡ result_of (lists_number (said_tell t)) value.old ⌝ }
+    ensures { answer.result result value.new ≡ answer.result_of (answer.lists_number (said_tell t)) value.old }
 {
     match t {
         TellAnswer::Done(n) => {

@@ -1,7 +1,7 @@
 // Answers of entenc.
 ghost use Rattle.std.specs.Prelude.{◌≡◌, length};
 ghost use Rattle.entenc.specs.Answer.{said};
-ghost use Rattle.gurthapen_answer.specs.Result.{result, result_of};
+ghost use Rattle.gurthapen_answer.specs.Result as answer;
 ghost use Rattle.gurthapen_answer.specs.Enc.{lists_writer};
 
 use entenc::WriteAnswer;
@@ -10,7 +10,7 @@ use gurthapen_state::store::store_writer;
 // What a writer's call leaves beside the bytes.
 pub fn leave_write(a: WriteAnswer, state: &mut [i64]) -> u32
     requires { length state.old ≡ 12 }
-    ensures* { λ r. ⌜ result r state.new ≡ result_of (lists_writer (said a)) state.old ⌝ }
+    ensures { answer.result result state.new ≡ answer.result_of (lists_writer (said a)) state.old }
 {
     match a {
         WriteAnswer::Done(w) => {

@@ -1,7 +1,7 @@
 // Answers of quant_bands.
 ghost use Rattle.std.specs.Prelude.{◌≡◌, length};
 ghost use Rattle.quant_bands.specs.Answer.{said};
-ghost use Rattle.gurthapen_answer.specs.Result.{result, result_of};
+ghost use Rattle.gurthapen_answer.specs.Result as answer;
 ghost use Rattle.gurthapen_answer.specs.Dec.{lists_reader};
 
 use gurthapen_state::store::store_reader;
@@ -10,7 +10,7 @@ use quant_bands::EnergyRead;
 // What a decode leaves beside the energies.
 pub fn leave_energies(a: EnergyRead, state: &mut [i64]) -> u32
     requires { length state.old ≡ 12 }
-    ensures* { λ r. ⌜ result r state.new ≡ result_of (lists_reader (said a)) state.old ⌝ }
+    ensures { answer.result result state.new ≡ answer.result_of (lists_reader (said a)) state.old }
 {
     match a {
         EnergyRead::Done(d) => {

@@ -1,7 +1,7 @@
 // Answers of cwrs.
 ghost use Rattle.std.specs.Prelude.{◌≡◌, length};
 ghost use Rattle.cwrs.specs.Answer.{said};
-ghost use Rattle.gurthapen_answer.specs.Result.{result, result_of};
+ghost use Rattle.gurthapen_answer.specs.Result as answer;
 ghost use Rattle.gurthapen_answer.specs.Pulses.{lists_found};
 
 use cwrs::Decoded;
@@ -10,7 +10,7 @@ use gurthapen_state::store::store_reader;
 // What a read leaves beside the places.
 pub fn leave_found(a: Decoded, state: &mut [i64], energy: &mut [u32]) -> u32
     requires { (length state.old ≡ 12) × (length energy.old ≡ 1) }
-    ensures* { λ r. ⌜ result r (state.new, energy.new) ≡ result_of (lists_found (said a)) (state.old, energy.old) ⌝ }
+    ensures { answer.result result (state.new, energy.new) ≡ answer.result_of (lists_found (said a)) (state.old, energy.old) }
 {
     match a {
         Decoded::Done(f) => {

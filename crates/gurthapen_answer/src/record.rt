@@ -1,7 +1,7 @@
 // Answers of stream and saved.
 ghost use Rattle.std.specs.Prelude.{◌≡◌, length};
 ghost use Rattle.stream_saved.specs.Lines.{said};
-ghost use Rattle.gurthapen_answer.specs.Result.{result, result_of, lists_number};
+ghost use Rattle.gurthapen_answer.specs.Result as answer;
 ghost use Rattle.gurthapen_answer.specs.Record.{lists_framed, lists_restored};
 
 use gurthapen_state::record::store_record;
@@ -12,9 +12,7 @@ use stream_saved::{Restored, Saved};
 // What a frame leaves.
 pub fn leave_frame(y: Framed, energies: &mut [f32], next: &mut [u64], state: &mut [i64]) -> u32
     requires { (length energies.old ≡ 42) × (length next.old ≡ 1) × (length state.old ≡ 12) }
-    ensures* { λ r.
-        ⌜ result r ((energies.new, next.new), state.new)
-        ≡ result_of (lists_framed y) ((energies.old, next.old), state.old) ⌝ }
+    ensures { answer.result result ((energies.new, next.new), state.new) ≡ answer.result_of (lists_framed y) ((energies.old, next.old), state.old) }
 {
     if y.code == 0 {
         let rec = y.rec;
@@ -28,7 +26,7 @@ pub fn leave_frame(y: Framed, energies: &mut [f32], next: &mut [u64], state: &mu
 // What saving leaves beside the bytes.
 pub fn leave_line(a: Saved, size: &mut [usize]) -> u32
     requires { length size.old ≡ 1 }
-    ensures* { λ r. ⌜ result r size.new ≡ result_of (lists_number (said a)) size.old ⌝ }
+    ensures { answer.result result size.new ≡ answer.result_of (answer.lists_number (said a)) size.old }
 {
     match a {
         Saved::Done(n) => {
@@ -42,7 +40,7 @@ pub fn leave_line(a: Saved, size: &mut [usize]) -> u32
 // What restoring leaves.
 pub fn leave_restored(a: Restored, energies: &mut [f32], next: &mut [u64]) -> u32
     requires { (length energies.old ≡ 42) × (length next.old ≡ 1) }
-    ensures* { λ r. ⌜ result r (energies.new, next.new) ≡ result_of (lists_restored a) (energies.old, next.old) ⌝ }
+    ensures { answer.result result (energies.new, next.new) ≡ answer.result_of (lists_restored a) (energies.old, next.old) }
 {
     if a.code == 0 {
         let rec = a.rec;

@@ -1,0 +1,18 @@
+-- `gurthapen_answer::dec::leave_read`: by the answer. Assumes nothing.
+use Rattle.gurthapen_answer.specs.Result.{result_of}
+use Rattle.gurthapen_answer.proofs.Exports.{one_set}
+use Rattle.gurthapen_answer.proofs.dec.leave_read.Goals as goal
+
+pub returns-in-Done : goal.returns-in-Done
+unfolding result_of
+returns-in-Done c =
+    rw (
+      c.in-Done.is,
+      c.store_reader.ensures,
+      one_set _ c.args.value.now
+          c.requires.1,
+    )
+
+pub returns-in-Refused : goal.returns-in-Refused
+unfolding result_of
+returns-in-Refused c = rw c.in-Refused.is

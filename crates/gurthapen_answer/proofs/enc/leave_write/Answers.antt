@@ -1,0 +1,15 @@
+-- `gurthapen_answer::enc::leave_write`: by the answer. Assumes nothing.
+use Rattle.gurthapen_answer.specs.Result.{result_of}
+use Rattle.gurthapen_answer.proofs.enc.leave_write.Goals as goal
+
+pub returns-in-Done : goal.returns-in-Done
+unfolding result_of
+returns-in-Done c =
+    rw (
+      c.in-Done.is,
+      c.store_writer.ensures,
+    )
+
+pub returns-in-Refused : goal.returns-in-Refused
+unfolding result_of
+returns-in-Refused c = rw c.in-Refused.is

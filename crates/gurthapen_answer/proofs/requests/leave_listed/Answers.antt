@@ -1,0 +1,16 @@
+-- `gurthapen_answer::requests::leave_listed`: by the answer. Assumes nothing.
+use Rattle.gurthapen_answer.specs.Result.{result_of}
+use Rattle.gurthapen_answer.proofs.Exports.{one_set}
+use Rattle.gurthapen_answer.proofs.requests.leave_listed.Goals as goal
+
+pub returns-in-Done : goal.returns-in-Done
+unfolding result_of
+returns-in-Done c =
+    rw (
+      c.in-Done.is,
+      one_set _ c.args.size.now c.requires,
+    )
+
+pub returns-in-Refused : goal.returns-in-Refused
+unfolding result_of
+returns-in-Refused c = rw c.in-Refused.is
