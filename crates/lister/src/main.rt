@@ -3,8 +3,11 @@
 
 mod work;
 
-// Opens, runs, and says in at most one line what failed. The records have no bytes, so nothing is copied.
-fn main(rt: HostRuntime) {
+use std::process::ExitCode;
+
+// Opens, runs, and says in at most one line what failed. Where whoever read the answers left, it says nothing and its status is 141, as if the signal of a
+// write that nobody reads had ended it; else its status is 0. The records have no bytes, so nothing is copied.
+fn main(rt: HostRuntime) -> ExitCode {
     let mut block = [0u8; 65536];
     let mut text = [0u8; 65536];
     let mut kept = [0u8; 2601];
@@ -23,11 +26,15 @@ fn main(rt: HostRuntime) {
         tool_io::stdin(&rt),
         tool_io::stdout(&rt),
     );
+    if tool_io::reader_left(end.output) {
+        return ExitCode::from(141);
+    }
     if tool_io::read_failed(end.input) {
         tool_io::complain(&rt, b"lister: standard input cannot be read\n");
-        return;
+        return ExitCode::SUCCESS;
     }
     if tool_io::write_failed(end.output) {
         tool_io::complain(&rt, b"lister: standard output cannot be written\n");
     }
+    ExitCode::SUCCESS
 }

@@ -9,7 +9,8 @@
 ghost use Rattle.std.specs.Prelude.{◌≡◌, ◌+◌, ◌%◌, ◌^◌, ◌<◌, ◌≤◌, true, [], ◌∷◌, ◌++◌, length, take, nat_lt};
 ghost use Rattle.tool_io.specs.Moved.{Noted, OneRead, OneWrite, NewInput, NewOutput};
 
-use std::io::{Print, Read, Stdin, Stdout};
+use std::io;
+use std::io::{ErrorKind, Print, Read, Stdin, Stdout};
 
 // An input: its handle, the bytes in its record, whether they are all that was read, whether its end was seen, whether a read failed, and the
 // calls made. Only this file can make one or look inside.
@@ -23,13 +24,14 @@ pub struct Input {
     calls: u64,
 }
 
-// The output, in the same way.
+// The output, in the same way; `left` says whether a write failed since nobody reads the output any more.
 #[derive(Clone, Copy)]
 pub struct Output {
     handle: Stdout,
     logged: usize,
     complete: bool,
     failed: bool,
+    left: bool,
     calls: u64,
 }
 
@@ -70,6 +72,7 @@ pub fn stdout(rt: &HostRuntime) -> Output
         logged: 0,
         complete: true,
         failed: false,
+        left: false,
         calls: 0,
     }
 }
@@ -93,6 +96,13 @@ pub fn write_failed(s: Output) -> bool
     ensures { result ≡ s.failed }
 {
     s.failed
+}
+
+// Whether a write failed since nobody reads the output any more.
+pub fn reader_left(s: Output) -> bool
+    ensures { result ≡ s.left }
+{
+    s.left
 }
 
 // Hands a message to standard error.
@@ -141,6 +151,7 @@ pub fn give_up(t: Turns, s: Output) -> Output
         logged: s.logged,
         complete: s.complete,
         failed: true,
+        left: s.left,
         calls: s.calls,
     }
 }
@@ -222,6 +233,14 @@ pub fn read_block(block: &mut [u8], log: &mut [u8], calls: &mut [u64], s: Input)
     }
 }
 
+// Whether a write failed since nobody reads any more.
+fn is_left(written: &io::Result<()>) -> bool {
+    match written {
+        Ok(()) => false,
+        Err(e) => e.kind() == ErrorKind::BrokenPipe,
+    }
+}
+
 // Hands the text to standard output.
 pub fn write_text(text: &[u8], log: &mut [u8], calls: &mut [u64], s: Output) -> Output
     requires { (s.logged ≤ length log.old) × (calls.old ≡ s.calls ∷ []) }
@@ -229,14 +248,16 @@ pub fn write_text(text: &[u8], log: &mut [u8], calls: &mut [u64], s: Output) -> 
 {
     let made = count_call(calls, s.calls);
     let handle = s.handle;
-    let ok = handle.write_all(text).is_ok();
+    let written = handle.write_all(text);
     let k = noted(log, s.logged, s.complete, text);
-    let bad = s.failed | !ok;
+    let bad = s.failed | written.is_err();
+    let left = s.left | is_left(&written);
     Output {
         handle,
         logged: k.logged,
         complete: k.complete,
         failed: bad,
+        left,
         calls: made,
     }
 }
