@@ -1,0 +1,14 @@
+-- `gurthapen_dec_tell`: the lengths, the call, and what is left of it. Assumes nothing.
+use Rattle.gurthapen_answer.proofs.Exports.{wrong_lengths, right_lengths}
+use Rattle.gurthapen.proofs.dec.gurthapen_dec_tell.Goals as goal
+
+pub returns-then-state-value : goal.returns-then-state-value
+returns-then-state-value c =
+    right_lengths _ _ c.if-state-value.true
+    (rw (
+      c.tell-t.ensures,
+      c.load_reader-d.ensures,
+    ) at c.leave_tell.ensures)
+
+pub returns : goal.returns
+returns c = wrong_lengths _ _ c.if-state-value.false

@@ -1,0 +1,19 @@
+-- `gurthapen_pulses2bits`: the lengths, the call, and what is left of it. Assumes nothing.
+use mir.Facts.{to_z-of_z}
+use borrow.Author.Tests.{eq-eqb, ne_eqb}
+use Rattle.gurthapen_answer.proofs.Exports.{wrong_lengths, right_lengths}
+use Rattle.gurthapen.proofs.lookups.gurthapen_pulses2bits.Goals as goal
+
+pub returns-then-value-eq1 : goal.returns-then-value-eq1
+returns-then-value-eq1 c =
+    right_lengths _ _ (eq-eqb _ _ c.if-value-eq1.true)
+    (rw (rw (
+      to_z-of_z c.ranges.band,
+      to_z-of_z
+          c.ranges.lm,
+      to_z-of_z
+          c.ranges.pulses,
+    ) at c.pulses2bits-a.ensures) at c.leave_lookup.ensures)
+
+pub returns : goal.returns
+returns c = wrong_lengths _ _ (ne_eqb _ _ c.if-value-eq1.false)
