@@ -28,7 +28,7 @@ returns-then-is_stored-shown c =
     let f = c.ranges in
     let e = c.clt_compute_allocation_read-a.new in
     right_lengths _ _ (tested (goal.at.returns-then-is_stored-shown c).Then-is_stored-shown)
-    (bands-read {c = lists e.pulses e.fine e.priorities}
+    (bands-read {p = lists e.pulses e.fine e.priorities}
     (a.state.now, a.shown.now) a.offsets.now a.caps.now a.s.now (lists a.pulses.now a.fine.now a.priorities.now)
     (numbers_back f.c f.lm f.start f.end f.trim f.total) c.load_reader-d.ensures c.clt_compute_allocation_read-a.ensures
     c.leave_alloc_read.ensures)

@@ -28,7 +28,7 @@ returns-then-is_stored-shown c =
     let f = c.ranges in
     let e = c.clt_compute_allocation_write-a.new in
     right_lengths _ _ (tested (goal.at.returns-then-is_stored-shown c).Then-is_stored-shown)
-    (bands-wrote {c = lists e.pulses e.fine
+    (bands-wrote {p = lists e.pulses e.fine
     e.priorities} {b' = e.buf} (a.state.now, a.shown.now) a.offsets.now a.caps.now a.buf.now
     (lists a.pulses.now a.fine.now a.priorities.now) (numbers_back f.c f.lm f.start f.end f.trim f.total)
     (wishes_back f.intensity f.dual f.previous f.bandwidth) c.load_writer-w.ensures c.clt_compute_allocation_write-a.ensures
