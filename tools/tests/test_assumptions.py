@@ -42,6 +42,7 @@ class Rules(unittest.TestCase):
 
     def test_a_tool_as_it_should_be(self):
         self.assertEqual(self.wrong(["tool_io"], main=MAIN, work="fn run(i: Input) {}\n"), [])
+        self.assertEqual(self.wrong(["tool_io"], main="use std::process::ExitCode;\n" + MAIN), [])
 
     def test_what_it_may_not(self):
         self.assertEqual(len(self.wrong(["tool_io", "libc"], main=MAIN)), 1)
@@ -54,6 +55,8 @@ class Rules(unittest.TestCase):
         self.assertEqual(len(self.wrong([], main=MAIN.replace("tool_io::say(&rt", "println!(rt"))), 1)
         self.assertEqual(len(self.wrong([], main=MAIN, work="fn f(rt: &HostRuntime) {}\n")), 1)
         self.assertEqual(len(self.wrong([], main="use std::io::Write;\n" + MAIN)), 1)
+        self.assertEqual(len(self.wrong([], main="use std::process::Command;\n" + MAIN)), 1)
+        self.assertEqual(len(self.wrong([], main=MAIN + "fn f(rt: &HostRuntime) {}\n")), 1)
         self.assertEqual(len(self.wrong([], main=MAIN, below="use std::fs::File;\n")), 1)
 
 
