@@ -56,7 +56,7 @@ class Rules(unittest.TestCase):
         self.assertEqual(len(self.wrong([], main=MAIN, work="fn f(rt: &HostRuntime) {}\n")), 1)
         self.assertEqual(len(self.wrong([], main="use std::io::Write;\n" + MAIN)), 1)
         self.assertEqual(len(self.wrong([], main="use std::process::Command;\n" + MAIN)), 1)
-        self.assertEqual(len(self.wrong([], main=MAIN + "fn f(rt: &HostRuntime) {}\n")), 1)
+        self.assertEqual(len(self.wrong([], main=MAIN + "fn f(x: &HostRuntime) {}\n")), 1)
         self.assertEqual(len(self.wrong([], main=MAIN, below="use std::fs::File;\n")), 1)
 
 
