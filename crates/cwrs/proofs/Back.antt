@@ -2,13 +2,13 @@
 use Prim.Native.Nat.{ℕ, zero, suc, ◌+◌, ◌-◌, ◌≤◌, ◌<◌}
 use mathlib.Core.Path.{◌≡◌, refl, sym, ap, ◌∙◌}
 use mathlib.Core.Bool.{Bool, true, false, cond, ◌&&◌, false≢true}
-use mathlib.Core.List.{List, [], ◌∷◌, ◌++◌, append_assoc, append-nil}
+use mathlib.Core.List.{List, [], ◌∷◌, ◌++◌, append_assoc}
 use native.Mathlib.Nat.{le_refl, le_trans, not-suc-le-zero}
 use native.Mathlib.Numerals.{add-one}
 use native.Mathlib.Omega.{arith}
 use lib.Dec.{leb, ltb}
 use lib.IntN.{ℤ, pos, nat_abs}
-use lib.ListN.{length, take, drop, set, replicate, take-append-drop}
+use lib.ListN.{length, take, set, replicate}
 use lib.Seq.{take-suc-set, take_at}
 use borrow.Author.Tests.{le-leb, lt-leb, leb-true, leb-false, lt-ltb}
 use Rattle.laws.specs.Signs.{with_sign}
@@ -162,10 +162,3 @@ pub zero-written : (y W : List ℤ) (i n : ℕ) → i < n → i < length y → t
 zero-written y W i n h l w =
     let e : suc (n - (i + 1)) ≡ n - i = omega arith in
     rw (add-one, take-suc-set y i (pos 0) l, append_assoc, ← add-one) (ap (λ (m : ℕ). take i y ++ replicate m (pos 0)) e ∙ w)
-
--- every place is
-pub zeros_done : (y y₀ W : List ℤ) (i n : ℕ) → i ≡ n → take i y ++ replicate (n - i) (pos 0) ≡ W → drop n y ≡ drop n y₀ → y ≡ W ++ drop n y₀
-zeros_done y y₀ W i n e w d =
-    let z : n - i ≡ 0 = omega arith in
-    let f : take i y ≡ W = sym (append-nil (take i y)) ∙ rw z at w in
-    sym (take-append-drop n y) ∙ rw (d, ← f, e)

@@ -19,7 +19,7 @@ use Rattle.cwrs_counts.specs.Count.{Vn}
 use Rattle.cwrs.specs.Word.{pulses}
 use Rattle.cwrs.specs.Answer.{in_domain, special_read, special_write}
 
--- `inDomain` as facts
+-- `in_domain` as facts
 pub record Domain (n k : ℕ) : Type 0 where
   pub n_low : 2 ≤ n
   pub n_high : n ≤ 176

@@ -60,7 +60,8 @@ pub struct Reached {
 // The greatest j up to k with U(n, j) at most i; here and above are the counts at k and at k + 1.
 fn reach(n: usize, k: usize, i: u32, here: u32, above: u32) -> Reached
     requires { (1 ≤ n) × (n ≤ 176) × (k ≤ 176) × (here ≡ U n k) × (above ≡ U n (k + 1)) }
-    ensures { (result.left ≡ Word.reach n k i) × (result.left ≤ k) × (result.here ≡ U n result.left) × (result.above ≡ U n (result.left + 1)) × (result.here ≤ i) }
+    ensures { (result.left ≡ Word.reach n k i) × (result.left ≤ k) × (result.here ≡ U n result.left)
+        × (result.above ≡ U n (result.left + 1)) × (result.here ≤ i) }
 {
     let mut left = k;
     let mut p = here;
@@ -96,7 +97,8 @@ pub struct Spot {
 // The first of n places with k pulses and the number i, of v vectors.
 fn first_spot(n: usize, k: usize, i: u32, v: u32) -> Spot
     requires { (1 ≤ n) × (n ≤ 176) × (k ≤ 128) × (v ≡ Vn n k) }
-    ensures { (result.value ≡ head_pulse n k i) × (result.left ≡ tail_pulses n k i) × (result.index ≡ tail_index n k i) × (result.count ≡ Vn (n - 1) result.left) }
+    ensures { (result.value ≡ head_pulse n k i) × (result.left ≡ tail_pulses n k i) × (result.index ≡ tail_index n k i)
+        × (result.count ≡ Vn (n - 1) result.left) }
 {
     let u = pvq_u(n, k);
     let p = v - u;

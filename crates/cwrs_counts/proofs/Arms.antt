@@ -14,10 +14,6 @@ use Rattle.cwrs_counts.specs.Rows.{row_at, len_at, packed_pair, packed_at}
 pub hit : (a g : ℕ) {k w : ℕ} → g ≡ k → w ≡ packed_at a k → w ≡ packed_at a g
 hit a g e h = rw e h
 
--- an arm of the rows
-pub row_is : (a g : ℕ) {k w : ℕ} → a ≡ k → w ≡ packed_at k g → w ≡ packed_at a g
-row_is a g e h = rw e h
-
 -- an arm of the lengths
 pub long : (a : ℕ) {k w : ℕ} → a ≡ k → w ≡ len_at k → w ≡ len_at a
 long a e h = rw e h

@@ -33,7 +33,8 @@ Reader_bit_logp self s logp r₁ r₂ e₁ e₂ =
 
 -- Reader::icdf
 pub Reader_icdf : (self : Reader) (s : List ℕ) (t : List ℕ) (ftb : ℕ) (r₁ r₂ : ReadAnswer)
-    → said r₁ ≡ answer (refusal_r (table t ftb) s self) (read_sym (table t ftb) s self) → said r₂ ≡ answer (refusal_r (table t ftb) s self) (read_sym (table t ftb) s self)
+    → said r₁ ≡ answer (refusal_r (table t ftb) s self) (read_sym (table t ftb) s self) → said r₂
+    ≡ answer (refusal_r (table t ftb) s self) (read_sym (table t ftb) s self)
     → r₁ ≡ r₂
 Reader_icdf self s t ftb r₁ r₂ e₁ e₂ =
     entdec_said_same (one e₁ e₂)
@@ -61,7 +62,8 @@ Reader_tell self r₁ r₂ e₁ e₂ =
 
 -- Reader::tell_frac
 pub Reader_tell_frac : (self : Reader) (r₁ r₂ : TellAnswer)
-    → said_tell r₁ ≡ tell_said (reader_ok self) (tell_frac_of self.total self.rng) → said_tell r₂ ≡ tell_said (reader_ok self) (tell_frac_of self.total self.rng)
+    → said_tell r₁ ≡ tell_said (reader_ok self) (tell_frac_of self.total self.rng) → said_tell r₂
+    ≡ tell_said (reader_ok self) (tell_frac_of self.total self.rng)
     → r₁ ≡ r₂
 Reader_tell_frac self r₁ r₂ e₁ e₂ =
     entcode_said_tell_same (one e₁ e₂)

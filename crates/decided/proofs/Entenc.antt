@@ -32,7 +32,8 @@ Writer_tell self r₁ r₂ e₁ e₂ =
 
 -- Writer::tell_frac
 pub Writer_tell_frac : (self : Writer) (r₁ r₂ : TellAnswer)
-    → said_tell r₁ ≡ tell_said (writer_ok self) (tell_frac_of self.total self.rng) → said_tell r₂ ≡ tell_said (writer_ok self) (tell_frac_of self.total self.rng)
+    → said_tell r₁ ≡ tell_said (writer_ok self) (tell_frac_of self.total self.rng) → said_tell r₂
+    ≡ tell_said (writer_ok self) (tell_frac_of self.total self.rng)
     → r₁ ≡ r₂
 Writer_tell_frac self r₁ r₂ e₁ e₂ =
     entcode_said_tell_same (one e₁ e₂)

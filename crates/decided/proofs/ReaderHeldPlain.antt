@@ -9,7 +9,13 @@ use Rattle.quant_bands.specs.Answer.{coarse_reading}
 use Rattle.rate.specs.Answer.{reading as allocating}
 use Rattle.rate.specs.Question.{Lists, lists}
 use Rattle.rate.specs.declared.AllocNumbers.{AllocNumbers}
-use Rattle.reader_held.proofs.Said.{said_alloc_step-same as reader_held_said_alloc_step_same, said_energies_step-same as reader_held_said_energies_step_same, said_step-same as reader_held_said_step_same, said_value_step-same as reader_held_said_value_step_same}
+use Rattle.reader_held.proofs.Said.{
+  said_alloc_step-same as reader_held_said_alloc_step_same,
+  said_energies_step-same as
+      reader_held_said_energies_step_same,
+  said_step-same as reader_held_said_step_same,
+  said_value_step-same as reader_held_said_value_step_same,
+}
 use Rattle.reader_held.specs.Held.{After, alloc_after, alloc_of, begun_of, coarse_after, coarse_of, lap_of, said_step, said_value_step, symbol_step}
 use Rattle.reader_held.specs.declared.AllocStep.{AllocStep}
 use Rattle.reader_held.specs.declared.Allocation.{Allocation}
@@ -66,15 +72,27 @@ plain_laplace num buf fs decay r₁ r₂ e₁ e₂ =
     reader_held_said_value_step_same (one e₁ e₂)
 
 -- plain::allocation
-pub plain_allocation : (num : Reader) (buf : List ℕ) (q : AllocNumbers) (offsets : List ℤ) (caps : List ℤ) (pulses : List ℤ) (fine : List ℤ) (priorities : List ℤ) (r₁ r₂ : AllocStep) (pulses_after₁ pulses_after₂ : List ℤ) (fine_after₁ fine_after₂ : List ℤ) (priorities_after₁ priorities_after₂ : List ℤ)
-    → alloc_after r₁ (lists pulses_after₁ fine_after₁ priorities_after₁) ≡ alloc_of num (allocating q offsets caps buf num (lists pulses fine priorities)) → alloc_after r₂ (lists pulses_after₂ fine_after₂ priorities_after₂) ≡ alloc_of num (allocating q offsets caps buf num (lists pulses fine priorities))
+pub plain_allocation : (num : Reader) (buf : List ℕ) (q : AllocNumbers) (offsets : List ℤ) (caps : List ℤ) (pulses : List ℤ) (fine : List ℤ)
+    (priorities : List ℤ) (r₁ r₂ : AllocStep) (pulses_after₁ pulses_after₂ : List ℤ) (fine_after₁ fine_after₂ : List ℤ)
+    (priorities_after₁ priorities_after₂ : List ℤ)
+    → alloc_after r₁ (lists pulses_after₁ fine_after₁ priorities_after₁)
+    ≡ alloc_of num (allocating q offsets caps buf num (lists pulses fine priorities)) →
+    alloc_after r₂ (lists pulses_after₂ fine_after₂ priorities_after₂) ≡ alloc_of num (allocating q offsets caps buf num (lists pulses fine priorities))
     → (r₁ ≡ r₂) × (pulses_after₁ ≡ pulses_after₂) × (fine_after₁ ≡ fine_after₂) × (priorities_after₁ ≡ priorities_after₂)
-plain_allocation num buf q offsets caps pulses fine priorities r₁ r₂ pulses_after₁ pulses_after₂ fine_after₁ fine_after₂ priorities_after₁ priorities_after₂ e₁ e₂ =
-    (reader_held_said_alloc_step_same (ap (λ (x : After Allocation Lists). x.step) (one e₁ e₂)), ap (λ (x : After Allocation Lists). x.lent.pulses) (one e₁ e₂), ap (λ (x : After Allocation Lists). x.lent.fine) (one e₁ e₂), ap (λ (x : After Allocation Lists). x.lent.priorities) (one e₁ e₂))
+plain_allocation num buf q offsets caps pulses fine priorities r₁ r₂ pulses_after₁ pulses_after₂ fine_after₁ fine_after₂ priorities_after₁
+    priorities_after₂ e₁ e₂ = (
+      reader_held_said_alloc_step_same (ap (λ (x : After Allocation Lists). x.step) (one e₁ e₂)),
+      ap (λ (x : After Allocation Lists). x.lent.pulses)
+          (one e₁ e₂),
+      ap (λ (x : After Allocation Lists). x.lent.fine) (one e₁ e₂),
+      ap (λ (x : After Allocation Lists). x.lent.priorities) (one e₁ e₂),
+    )
 
 -- plain::coarse
-pub plain_coarse : (num : Reader) (buf : List ℕ) (energies : List Float) (c : ℤ) (lm : ℤ) (start : ℤ) (end : ℤ) (intra : ℤ) (r₁ r₂ : EnergiesStep) (energies_after₁ energies_after₂ : List Float)
-    → coarse_after r₁ energies_after₁ ≡ coarse_of num (coarse_reading c lm start end intra buf num energies) → coarse_after r₂ energies_after₂ ≡ coarse_of num (coarse_reading c lm start end intra buf num energies)
+pub plain_coarse : (num : Reader) (buf : List ℕ) (energies : List Float) (c : ℤ) (lm : ℤ) (start : ℤ) (end : ℤ) (intra : ℤ) (r₁ r₂ : EnergiesStep)
+    (energies_after₁ energies_after₂ : List Float)
+    → coarse_after r₁ energies_after₁ ≡ coarse_of num (coarse_reading c lm start end intra buf num energies) → coarse_after r₂ energies_after₂
+    ≡ coarse_of num (coarse_reading c lm start end intra buf num energies)
     → (r₁ ≡ r₂) × (energies_after₁ ≡ energies_after₂)
 plain_coarse num buf energies c lm start end intra r₁ r₂ energies_after₁ energies_after₂ e₁ e₂ =
     (reader_held_said_energies_step_same (ap (λ (x : After Unit (List Float)). x.step) (one e₁ e₂)), ap (λ (x : After Unit (List Float)). x.lent) (one e₁ e₂))

@@ -12,8 +12,12 @@ use lib.IntN.{ℤ}
 use mathlib.Core.List.{List}
 
 -- frame
-pub frame : (rec : Record) (d : Reader) (s : List ℕ) (number : ℕ) (c : ℤ) (lm : ℤ) (start : ℤ) (end : ℤ) (intra : ℤ) (r₁ r₂ : Applied) (rec_after₁ rec_after₂ : Record)
-    → ((said r₁ ≡ (step_of (framed rec (call d s number c lm start end intra))).said) × (rec_after₁ ≡ (step_of (framed rec (call d s number c lm start end intra))).rec) × ((n : ℕ) → said r₁ ≡ refused n → rec_after₁ ≡ rec)) → ((said r₂ ≡ (step_of (framed rec (call d s number c lm start end intra))).said) × (rec_after₂ ≡ (step_of (framed rec (call d s number c lm start end intra))).rec) × ((n : ℕ) → said r₂ ≡ refused n → rec_after₂ ≡ rec))
+pub frame : (rec : Record) (d : Reader) (s : List ℕ) (number : ℕ) (c : ℤ) (lm : ℤ) (start : ℤ) (end : ℤ) (intra : ℤ) (r₁ r₂ : Applied)
+    (rec_after₁ rec_after₂ : Record)
+    → ((said r₁ ≡ (step_of (framed rec (call d s number c lm start end intra))).said)
+    × (rec_after₁ ≡ (step_of (framed rec (call d s number c lm start end intra))).rec) × ((n : ℕ) → said r₁ ≡ refused n → rec_after₁ ≡ rec)) →
+    ((said r₂ ≡ (step_of (framed rec (call d s number c lm start end intra))).said)
+    × (rec_after₂ ≡ (step_of (framed rec (call d s number c lm start end intra))).rec) × ((n : ℕ) → said r₂ ≡ refused n → rec_after₂ ≡ rec))
     → (r₁ ≡ r₂) × (rec_after₁ ≡ rec_after₂)
 frame rec d s number c lm start end intra r₁ r₂ rec_after₁ rec_after₂ e₁ e₂ =
     (stream_lent_said_same (one e₁.0 e₂.0), one e₁.1 e₂.1)

@@ -14,7 +14,8 @@ use mathlib.Core.List.{List}
 
 -- round_trip
 pub round_trip : (bytes : List ℕ) (symbols : List ℕ) (tables : List ℕ) (q : AllocNumbers) (h : Wishes) (offsets : List ℤ) (caps : List ℤ) (r₁ r₂ : Trip)
-    → said r₁ ≡ answer (refusal_given symbols tables) (outcome_of q offsets caps h bytes (symbols_of symbols tables)) → said r₂ ≡ answer (refusal_given symbols tables) (outcome_of q offsets caps h bytes (symbols_of symbols tables))
+    → said r₁ ≡ answer (refusal_given symbols tables) (outcome_of q offsets caps h bytes (symbols_of symbols tables)) → said r₂
+    ≡ answer (refusal_given symbols tables) (outcome_of q offsets caps h bytes (symbols_of symbols tables))
     → r₁ ≡ r₂
 round_trip bytes symbols tables q h offsets caps r₁ r₂ e₁ e₂ =
     trip_call_said_same (one e₁ e₂)

@@ -12,8 +12,10 @@ use mathlib.Core.List.{List}
 use mathlib.Core.Path.{ap}
 
 -- alg_unquant
-pub alg_unquant : (d : Reader) (s : List ℕ) (shape : List Float) (n : ℤ) (k : ℤ) (spread : ℤ) (b : ℤ) (gain : Float) (r₁ r₂ : Shaped) (shape_after₁ shape_after₂ : List Float)
-    → after r₁ shape_after₁ ≡ unquantised (shape_request n k spread b gain) s d shape → after r₂ shape_after₂ ≡ unquantised (shape_request n k spread b gain) s d shape
+pub alg_unquant : (d : Reader) (s : List ℕ) (shape : List Float) (n : ℤ) (k : ℤ) (spread : ℤ) (b : ℤ) (gain : Float) (r₁ r₂ : Shaped)
+    (shape_after₁ shape_after₂ : List Float)
+    → after r₁ shape_after₁ ≡ unquantised (shape_request n k spread b gain) s d shape → after r₂ shape_after₂
+    ≡ unquantised (shape_request n k spread b gain) s d shape
     → (r₁ ≡ r₂) × (shape_after₁ ≡ shape_after₂)
 alg_unquant d s shape n k spread b gain r₁ r₂ shape_after₁ shape_after₂ e₁ e₂ =
     (vq_said_same (ap (λ (x : After). x.said) (one e₁ e₂)), ap (λ (x : After). x.shape) (one e₁ e₂))

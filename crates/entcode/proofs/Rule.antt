@@ -5,7 +5,7 @@ use mathlib.Core.Bool.{true, and-eq-true_iff}
 use borrow.Author.Tests.{ltb-true, leb-true, lt-ltb, le-leb}
 use Rattle.entcode.specs.Counts.{counts_ok}
 
--- the tests of `countsOk`, as facts
+-- the tests of `counts_ok`, as facts
 pub record Counts (storage rng waiting total : ℕ) : Type 0 where
   pub storage-le : storage ≤ 1275
   pub range_gt : 8388608 < rng

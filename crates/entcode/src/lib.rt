@@ -32,7 +32,7 @@ pub fn tell_of(total: u32, rng: u32) -> u32
 }
 
 // Entry k decides for the numbers whose top four digits are those of k + 8: up to it three truncated squarings give k eighths, above it k + 1
-// (proofs/Logs.antt, `eighth-upto` and `eighth-above`).
+// (proofs/Logs.antt, `eighth_upto` and `eighth-above`).
 const CORRECTION: [u32; 8] = [35733, 38967, 42495, 46340, 50535, 55109, 60097, 65535];
 
 // The three digits after the point of the logarithm of r / 2^15.

@@ -16,7 +16,7 @@ use Rattle.entdec.specs.Rule.{reader_ok, read_refusal, refusal_r}
 
 -- ---- the rule
 
--- the tests of `readerOk`, as facts
+-- the tests of `reader_ok`, as facts
 pub record Sound (d : Reader) : Type 0 where
   pub counts : Counts d.storage d.rng d.waiting d.total
   pub val-lt : d.val < d.rng

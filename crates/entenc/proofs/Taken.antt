@@ -23,7 +23,7 @@ use Rattle.entenc.specs.Ready.{Sound, Ready}
 
 -- ---- the rule of a writer, as facts
 
--- the tests of `writerOk`, as facts
+-- the tests of `writer_ok`, as facts
 pub record Ruled (w : Writer) : Type 0 where
   pub counts : Counts w.sink.storage w.rng w.waiting w.total
   pub places-le : w.sink.offs + w.sink.ends ≤ w.sink.storage

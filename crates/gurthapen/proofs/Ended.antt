@@ -27,4 +27,5 @@ pub trip-left : {a : Said Outcome} {r : ℕ} {v' : List ℕ} (v : List ℕ) {q q
 trip-left {a} v {q' = q'} {h = h} offsets caps b ys n same-q same-h e k l =
     rw (k, l) (trip-given a v)
     ∙ ap (λ (a : Said Outcome). result_of (map_said outcome_numbers a) v)
-    (e ∙ ap (λ (q : AllocNumbers). answer n (outcome_of q offsets caps h b ys)) same-q ∙ ap (λ (h : Wishes). answer n (outcome_of q' offsets caps h b ys)) same-h)
+    (e ∙ ap (λ (q : AllocNumbers). answer n (outcome_of q offsets caps h b ys)) same-q
+    ∙ ap (λ (h : Wishes). answer n (outcome_of q' offsets caps h b ys)) same-h)

@@ -25,4 +25,5 @@ tells l v = exported (is_state l && is_long 1 v) (lists_number (tell_said (reade
 
 -- how many eighths of a bit are used
 abbrev pub tells_frac : List ℤ → List ℕ → Result (List ℕ)
-tells_frac l v = exported (is_state l && is_long 1 v) (lists_number (tell_said (reader_ok (reader_of l)) (tell_frac_of (reader_of l).total (reader_of l).rng))) v
+tells_frac l v =
+    exported (is_state l && is_long 1 v) (lists_number (tell_said (reader_ok (reader_of l)) (tell_frac_of (reader_of l).total (reader_of l).rng))) v

@@ -28,4 +28,5 @@ tells l v = exported (is_state l && is_long 1 v) (lists_number (tell_said (write
 
 -- how many eighths of a bit are used
 abbrev pub tells_frac : List ℤ → List ℕ → Result (List ℕ)
-tells_frac l v = exported (is_state l && is_long 1 v) (lists_number (tell_said (writer_ok (writer_of l)) (tell_frac_of (writer_of l).total (writer_of l).rng))) v
+tells_frac l v =
+    exported (is_state l && is_long 1 v) (lists_number (tell_said (writer_ok (writer_of l)) (tell_frac_of (writer_of l).total (writer_of l).rng))) v

@@ -12,10 +12,6 @@ use Rattle.gurthapen_answer.specs.Result.{Result, also, result, result_of, expor
 use Rattle.gurthapen_state.specs.State.{is_count, is_long, is_state, is_stored, entry}
 use Rattle.gurthapen_state.proofs.Lists.{all_set}
 
--- a function that asks for nothing is asked for nothing, wherever it is called
-pub nothing-asked : {A B : Type 0} → A → B → Unit {0}
-nothing-asked a b = tt
-
 module _ {A : Type 0} (said : Said A) (before : A) where
   -- a wrong length is 2, and nothing is written
   pub wrong_lengths : {t : Bool} → t ≡ false → result 2 before ≡ exported t said before

@@ -10,7 +10,22 @@ use borrow.Author.Tests.{ltb-true, ltb-false, leb-true, leb-false, lt-ltb, le-lt
 use Rattle.laws.proofs.Tests.{split_on}
 use Rattle.modes.proofs.Laplace.{Legal, runs_out-next, runs_out-zero}
 use Rattle.laplace.specs.declared.chain.Step.{Step}
-use Rattle.laplace.specs.Chain.{first_step, next_step, walk, up_to, past, side, zero_span, values_with_place, beyond, span_at, span_of, deep, side_at, locate_at}
+use Rattle.laplace.specs.Chain.{
+  first_step,
+  next_step,
+  walk,
+  up_to,
+  past,
+  side,
+  zero_span,
+  values_with_place,
+  beyond,
+  span_at,
+  span_of,
+  deep,
+  side_at,
+  locate_at,
+}
 use Rattle.laplace.specs.Chain.{locate, Proper}
 use Rattle.laplace.proofs.Walks.{Ends, goes_on, on_some, on_more, walk_step, walk-done, ends-within}
 
@@ -149,21 +164,6 @@ beyond-zero neg a e p = rw (lt-ltb 0 e.f p)
 beyond-le : (neg : Bool) (a : ℕ) (e : Step) → beyond neg a e ≤ values_with_place neg e.fl - 1
 beyond-le neg a e = split_on (ltb 0 e.f) (λ p. rw p (omega arith)) (λ p. rw p (omega arith))
 
--- no more than half of the places
-pub values_le : (neg : Bool) (fl : ℕ) → values_with_place neg fl ≤ 16384
-values_le true fl = omega arith
-values_le false fl = omega arith
-
--- short of the last value that has a place it is the distance to a
-pub beyond-inside : (n : ℕ) (neg : Bool) (a : ℕ) (e : Step) → e.f ≤ 0 → n ≡ values_with_place neg e.fl → a - e.i < n - 1
-    → a - e.i ≡ beyond neg a e
-beyond-inside n neg a e z q h = rw (le-ltb 0 e.f z) (omega (arith, q))
-
--- and from there on the last value's
-pub beyond-last : (n : ℕ) (neg : Bool) (a : ℕ) (e : Step) → e.f ≤ 0 → n ≡ values_with_place neg e.fl → n - 1 ≤ a - e.i
-    → n - 1 ≡ beyond neg a e
-beyond-last n neg a e z q h = rw (le-ltb 0 e.f z) (omega (arith, q))
-
 -- where f is 0 or d is, and as many as d values have a place, the places are proper
 side_proper : (neg : Bool) (e : Step) (d : ℕ) → e.i ≤ 33 → e.fl + 2 * e.f + 2 ≤ 32768 → (0 < e.f → d ≡ 0) → d ≤ values_with_place neg e.fl - 1
     → Proper (side neg e d)
@@ -210,10 +210,6 @@ side-high false fm e u = omega arith
 -- what a reader at a step finds holds its place
 pub deep-zero : (fm : ℕ) (e : Step) → 0 < e.f → deep fm e ≡ 0
 deep-zero fm e p = rw (lt-ltb 0 e.f p)
-
--- past the chain's end each value has two places, one for each sign
-pub deep-half : (fm : ℕ) (e : Step) → e.f ≤ 0 → deep fm e ≡ (fm - e.fl) / 2
-deep-half fm e z = rw (le-ltb 0 e.f z)
 
 -- a reader stops at a step whose places end after its own
 stop-high : (fm : ℕ) (e : Step) → goes_on (past fm) e ≡ false → 0 < e.f → fm < e.fl + 2 * e.f + 2

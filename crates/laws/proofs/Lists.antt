@@ -9,8 +9,8 @@ use native.Mathlib.Nat.{add-zero, eq-or-lt_of_le}
 use native.Mathlib.Numerals.{add-one}
 use native.Mathlib.Omega.{arith}
 use lib.Dec.{leb}
-use lib.ListN.{length, get_or, set, take, drop, length-set, length-drop, drop_of_length-le}
-use lib.Seq.{take_all, take-suc, take-suc-set, drop-cons, set_comm, get_or-set_same, get_or-set_other, sets}
+use lib.ListN.{length, get_or, set, take, drop, length-set, drop_of_length-le}
+use lib.Seq.{take-suc, take-suc-set, drop-cons, set_comm, get_or-set_same, get_or-set_other, sets}
 use borrow.Author.Tests.{le-leb, leb-true}
 use Rattle.laws.specs.Lists.{every, fill, AllLe}
 
@@ -35,10 +35,6 @@ module _ {A : Type 0} where
       ∙ sets_last xs (set l at x) (suc at) y
 
   -- ---- parts
-
-  -- the part of a slice from a place to its end
-  pub rest-is : (l : List A) (a : ℕ) → take (length l - a) (drop a l) ≡ drop a l
-  rest-is l a = take_all (length l - a) (drop a l) (omega (arith, length-drop a l))
 
   -- what holds of a stored value, and of the entry before it, holds of the entry after it
   pub set_keeps : (P : A → Type 0) (l : List A) (j : ℕ) (x d : A) → P x → (i : ℕ) → P (get_or l i d) → P (get_or (set l j x) i d)

@@ -1,47 +1,22 @@
 -- A signed number as a count, by its sign and size, and in a range. Assumes nothing.
-use Prim.Native.Nat.{ℕ, zero, suc, ◌+◌, ◌-◌, ◌≤◌, ◌<◌, ◌^◌, max}
+use Prim.Native.Nat.{ℕ, zero, suc, ◌-◌, ◌≤◌, ◌<◌, ◌^◌, max}
 use mathlib.Core.Path.{◌≡◌, refl, ap}
-use mathlib.Core.Bool.{Bool, true, false, true≢false, false≢true, and-eq-true_iff}
+use mathlib.Core.Bool.{Bool, true, false, false≢true, and-eq-true_iff}
 use mathlib.Core.List.{List}
-use native.Mathlib.Nat.{lt_of_le_of_lt, sub-le}
+use native.Mathlib.Nat.{lt_of_le_of_lt}
 use native.Mathlib.Omega.{arith}
-use lib.Dec.{T, leb}
-use lib.IntN.{ℤ, pos, negsuc, neg_ℤ, nat_abs, ◌-ℤ◌}
-use lib.Signed.{mag, le_z, non_neg}
+use lib.Dec.{leb}
+use lib.IntN.{ℤ, pos, negsuc, neg_ℤ, nat_abs}
+use lib.Signed.{mag, le_z}
 use lib.ListN.{get_or}
-use borrow.Author.Tests.{leb-true, le-leb, ltb-true, le-ltb}
-use mir.Syntax.{Width, w32}
+use borrow.Author.Tests.{leb-true, le-leb, le-ltb}
+use mir.Syntax.{Width}
 use mir.Val.{SFits, hbits}
 use Rattle.laws.specs.Lists.{every}
 use Rattle.laws.specs.Signs.{clip, in_range, is_neg, with_sign}
 use Rattle.laws.proofs.Lists.{every-all}
 
 -- ---- by its sign
-
--- a negative number counts as 0
-pub neg-clip : (z : ℤ) → is_neg z ≡ true → clip z ≡ 0
-neg-clip (pos n) h = absurd (let l = ltb-true n 0 h in omega arith)
-neg-clip (negsuc n) h = refl
-
--- any other counts as its size
-pub nat_abs-clip : (z : ℤ) → is_neg z ≡ false → nat_abs z ≡ clip z
-nat_abs-clip (pos n) h = refl
-nat_abs-clip (negsuc n) h = absurd (true≢false h)
-
--- a count of an i32 is below 2^31
-pub clip-lt : (z : ℤ) → SFits w32 z → clip z < 2147483648
-clip-lt (pos n) f = f.sfits
-clip-lt (negsuc n) f = omega arith
-
--- a negative number has a size
-pub neg-some : (z : ℤ) → is_neg z ≡ true → 0 < nat_abs z
-neg-some (pos n) h = absurd (let l = ltb-true n 0 h in omega arith)
-neg-some (negsuc n) h = omega arith
-
--- what a cast to an unsigned width asks
-pub pos-non_neg : (z : ℤ) → is_neg z ≡ false → T (non_neg z)
-pos-non_neg (pos n) h = tt
-pos-non_neg (negsuc n) h = absurd (true≢false h)
 
 -- ---- sign and size, and back
 
@@ -66,21 +41,6 @@ sign_value false n h = le-ltb n 0 (omega arith)
 pub neg_value : (n : ℕ) → 0 < n → negsuc (n - 1) ≡ with_sign true n
 neg_value zero h = absurd (omega arith)
 neg_value (suc n) h = let e : suc n - 1 ≡ n = omega arith in ap negsuc e
-
--- -1 - z, which fits where z does
-pub below-zero : (z : ℤ) → is_neg z ≡ true → negsuc 0 -ℤ z ≡ pos (nat_abs z - 1)
-below-zero (pos n) h = absurd (let l = ltb-true n 0 h in omega arith)
-below-zero (negsuc n) h = rw (le-ltb (suc n) 1 (omega arith))
-
--- the size less 1 fits where the number does
-pub down_fits : {w : Width} (z : ℤ) → SFits w z → SFits w (pos (nat_abs z - 1))
-down_fits (pos n) f = record { sfits = lt_of_le_of_lt (sub-le n 1) f.sfits }
-down_fits (negsuc n) f = let e : suc n - 1 ≡ n = omega arith in record { sfits = rw e f.sfits }
-
--- -1 less a count
-pub less_one : (n : ℕ) → negsuc 0 -ℤ pos n ≡ negsuc n
-less_one zero = refl
-less_one (suc n) = let e : suc (0 + n) ≡ suc n = omega arith in ap negsuc e
 
 -- the size that a width asks of is at most the number's
 mag-le : (z : ℤ) → mag z ≤ nat_abs z

@@ -1,4 +1,4 @@
--- The lister's text: an answer is added to it, and the whole is `listerOutput`. Assumes nothing.
+-- The lister's text: an answer is added to it, and the whole is `lister_output`. Assumes nothing.
 use Prim.Native.Nat.{ℕ, suc, ◌+◌, ◌-◌, ◌<◌, ◌≤◌}
 use mathlib.Core.Path.{◌≡◌, refl, sym, ap, ◌∙◌}
 use mathlib.Core.Bool.{Bool, true, false, cond}

@@ -91,10 +91,6 @@ bands-done l end start at₀ buf₀ j at buf h i =
     let n : length (band_lines j (end - j) l) ≡ 0 = ap length e in
     record { next = omega (arith, i.next); bytes = sym (ap (sets buf at) e) ∙ i.bytes; short = omega (arith, i.short) }
 
--- before the first band
-pub bands-first : (l : Lists) (end start at : ℕ) (buf : List ℕ) → BandsToWrite l end start at buf start at buf
-bands-first l end start at buf = record { same_length = refl; next = refl; bytes = refl; short = omega arith }
-
 -- R and the bands after it
 pub put-head-bands : (a b : ℕ) (xs ys : List ℕ) {buf mid last : List ℕ} {at r q : ℕ} → a + b ≤ 1200 → PlacedText a buf at xs r mid
     → PlacedText b mid r ys q last

@@ -26,7 +26,21 @@ use Rattle.rate_spec.specs.Vectors.{threshold, slope, trim_up, trim_down, trimme
 use Rattle.rate_spec.specs.Trials.{halve, reached, floored, trial_takes, over, vector, sixtyfourths, kept_bits, bits_of}
 use Rattle.rate_spec.specs.Skips.{last_boost, skip_start, width_up_to, reserve_next, top_bits, asks, paid, keep, dropped, flag_of, skip}
 use Rattle.rate_spec.specs.Split.{with_offset, wanted, extra, spill, fine_of, prio_of, split_of}
-use Rattle.rate_spec.specs.Alloc.{skipped, degrees, spread, split_band, carried, band_of, first_round, dual_asked, left_of, finish, ask_intensity, ask_dual, alloc_from}
+use Rattle.rate_spec.specs.Alloc.{
+  skipped,
+  degrees,
+  spread,
+  split_band,
+  carried,
+  band_of,
+  first_round,
+  dual_asked,
+  left_of,
+  finish,
+  ask_intensity,
+  ask_dual,
+  alloc_from,
+}
 use Rattle.rate_spec.specs.Alloc.{alloc}
 use Rattle.rate.specs.Question.{alloc_counts, numbers_ok, refusal_read, no_entries}
 use Rattle.rate.specs.Answer.{answer_read}
@@ -38,12 +52,18 @@ use Rattle.lister_answer.specs.Example.{Example}
 
 -- by computing both sides
 pub example : Example
-unfolding count_leading_zeros every fill sum_of edges edge width vectors vector_entry fractions fraction log_widths log_width caps cap_entry glue separated tabbed digit_of
-    all_digits value_after glyph_of last_digits no_needless_zero bytes_of hex_bytes figures_of counts_ok renorm_steps cut_start cut_width refusal pull pulls decoded_place
-    update byte_back fetch fetches read_bits fresh_reader read_sym find_sym reader_ok read_refusal cap_of skip_reserve stereo_fits intensity_reserve dual_reserve budget
-    threshold slope trim_up trim_down trimmed vector_bits lower_bits upper_bits interpolated halve reached floored trial_takes over vector sixtyfourths kept_bits
-    bits_of last_boost skip_start width_up_to reserve_next top_bits asks paid keep dropped flag_of skip with_offset wanted extra spill fine_of prio_of split_of skipped
-    degrees spread split_band carried band_of first_round dual_asked left_of finish ask_intensity ask_dual alloc_from alloc alloc_counts numbers_ok refusal_read answer_read
+unfolding count_leading_zeros every fill sum_of edges edge width vectors vector_entry fractions fraction log_widths log_width caps cap_entry glue
+    separated tabbed digit_of
+    all_digits value_after glyph_of last_digits no_needless_zero bytes_of hex_bytes figures_of counts_ok renorm_steps cut_start cut_width refusal pull
+    pulls decoded_place
+    update byte_back fetch fetches read_bits fresh_reader read_sym find_sym reader_ok read_refusal cap_of skip_reserve stereo_fits intensity_reserve
+    dual_reserve budget
+    threshold slope trim_up trim_down trimmed vector_bits lower_bits upper_bits interpolated halve reached floored trial_takes over vector
+    sixtyfourths kept_bits
+    bits_of last_boost skip_start width_up_to reserve_next top_bits asks paid keep dropped flag_of skip with_offset wanted extra spill fine_of prio_of
+    split_of skipped
+    degrees spread split_band carried band_of first_round dual_asked left_of finish ask_intensity ask_dual alloc_from alloc alloc_counts numbers_ok
+    refusal_read answer_read
     answer lent_after asks_of request_numbers well_formed request_of no_entries caps_of answer_line head_line band_line band_lines refused_line allocated
     listing_of_numbers listing_of_line
 example = refl

@@ -1,14 +1,12 @@
 -- What a request line asks, by its fields, and what reading its packet answers. Assumes nothing.
-use Prim.Native.Nat.{ℕ, ◌*◌, ◌/◌, ◌≤◌, ◌<◌}
+use Prim.Native.Nat.{ℕ, ◌/◌, ◌≤◌, ◌<◌}
 use mathlib.Core.Path.{◌≡◌, refl, sym, ap, ◌∙◌}
 use mathlib.Core.Bool.{Bool, true, false, ◌&&◌, and-eq-true_iff}
 use mathlib.Core.List.{List}
 use lib.Dec.{leb, eqb}
-use lib.IntN.{pos}
 use lib.ListN.{length}
 use borrow.Author.Tests.{le-leb, lt-leb, eq-eqb, ne_eqb}
 use Rattle.text.specs.declared.Whole.{Whole}
-use Rattle.text.specs.declared.Whole.TheVariants.{Is}
 use Rattle.text.specs.Fields.{fields_of, field_of}
 use Rattle.text.specs.Numbers.{whole_of, hex_bytes, bytes_into}
 use Rattle.text.proofs.Values.{and-false}
@@ -18,22 +16,6 @@ use Rattle.lister_answer.specs.declared.Packet.TheVariants.{Bytes, Bad}
 use Rattle.lister_answer.specs.Request.{trim_of, total_of, asks_of, packet_hex, request_numbers, well_formed, packet_size, packet_into}
 
 -- ---- empty fields
-
--- an empty trim
-pub trim-empty : (f : List ℕ) {n : ℕ} → n ≡ length f → n ≡ 0 → Is (pos 5) ≡ trim_of f
-trim-empty f e h = rw (eq-eqb (length f) 0 (sym e ∙ h))
-
--- a trim with a figure
-pub trim-given : (f : List ℕ) {n : ℕ} {w : Whole} → n ≡ length f → (n ≡ 0 → ⊥) → w ≡ whole_of f → w ≡ trim_of f
-trim-given f e h w = rw (ne_eqb (length f) 0 (λ z. h (e ∙ z))) w
-
--- an empty total
-pub total-empty : (f : List ℕ) (bytes : ℕ) {n : ℕ} → n ≡ length f → n ≡ 0 → Is (pos (64 * bytes)) ≡ total_of f bytes
-total-empty f bytes e h = rw (eq-eqb (length f) 0 (sym e ∙ h))
-
--- a total with a figure
-pub total-given : (f : List ℕ) (bytes : ℕ) {n : ℕ} {w : Whole} → n ≡ length f → (n ≡ 0 → ⊥) → w ≡ whole_of f → w ≡ total_of f bytes
-total-given f bytes e h w = rw (ne_eqb (length f) 0 (λ z. h (e ∙ z))) w
 
 -- the six fields, read one by one, are the numbers of the line
 pub numbers-is : (s : List ℕ) (n : ℕ) {c lm st en tr to : Whole} {r : Parsed} → n ≡ length (packet_hex s) / 2

@@ -96,7 +96,7 @@ rows_in : every (λ p. eqb p 0 || is_row (p - 1)) cache_index ≡ true
 unfolding every all_true cache_index cache_bits
 rows_in = refl
 
--- where there is a row, it starts at `rowStart`
+-- where there is a row, it starts at `row_start`
 pub row_at : (lm band : ℕ) → lm < 5 → band < 21 → 1 ≤ index_entry lm band → CacheRow (row_start lm band)
 unfolding index_entry
 row_at lm band h g p =

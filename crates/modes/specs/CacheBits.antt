@@ -2,7 +2,7 @@
 -- less than what the i-th number of pulses costs, in eighths of a bit.
 -- The cache stands in three forms. Definitions cite this list, with cache_index (CacheIndex.antt) for where rows start. src/cache_bits.rt has it as a
 -- const, to lend to a search that reads several entries of a row: the contract of `table` says that it is this list. rate_cache packs starts, lengths
--- and entries into numbers (rate_cache/specs/Packed.antt), for a lookup that reads one of each: `mark-in` and `entry_in` (rate_cache/proofs/Packings.antt)
+-- and entries into numbers (rate_cache/specs/Packed.antt), for a lookup that reads one of each: `mark_in` and `entry_in` (rate_cache/proofs/Packings.antt)
 -- say that they are these lists'.
 use Rattle.std.specs.Prelude.{ℕ, ◌+◌, ◌≤◌, ◌<◌, List, [], ◌∷◌, get_or}
 

@@ -2,7 +2,7 @@
 -- without (intra), and 21 bands, the share of zero and the decay, both in 256ths. One flat list of 168 pairs.
 -- The pairs stand in three forms. Definitions cite this list, by zero_at and decay_at. src/energy_model.rt has it as a const, to lend to a reader of
 -- coarse energies, which knows a band's pair by its index: the contract of `table` says that it is this list. laplace has decays by their share of
--- zero (laplace/specs/Rows.antt), to tell whether a pair that was handed in is one of the model's: `looked-known` (laplace/proofs/Looked.antt) says that it
+-- zero (laplace/specs/Rows.antt), to tell whether a pair that was handed in is one of the model's: `looked_known` (laplace/proofs/Looked.antt) says that it
 -- finds these pairs and no others.
 use Rattle.std.specs.Prelude.{ℕ, ◌+◌, ◌*◌, List, [], ◌∷◌, Bool, cond, get_or}
 

@@ -4,7 +4,7 @@ ghost use Rattle.modes.specs.CacheBits.{cache_bits, row_length, row_entry};
 
 use laws::wide;
 
-// The list `cacheBits`.
+// The list `cache_bits`.
 const CACHE_BITS: [u8; 392] = [
     40, 7, 7, 7, 7, 7, 7, 7, 7, 7, 7, 7, 7, 7, 7, 7, 7, 7, 7, 7, 7, 7, 7, 7, 7, 7, 7, 7, 7, 7, 7,
     7, 7, 7, 7, 7, 7, 7, 7, 7, 7, 40, 15, 23, 28, 31, 34, 36, 38, 39, 41, 42, 43, 44, 45, 46, 47,

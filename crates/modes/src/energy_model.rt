@@ -4,7 +4,7 @@ ghost use Rattle.modes.specs.EnergyModel.{energy_model, zero_at, decay_at, pair_
 
 use laws::wide;
 
-// The list `energyModel`.
+// The list `energy_model`.
 const ENERGY_MODEL: [u8; 336] = [
     72, 127, 65, 129, 66, 128, 65, 128, 64, 128, 62, 128, 64, 128, 64, 128, 92, 78, 92, 79, 92, 78,
     90, 79, 116, 41, 115, 40, 114, 40, 132, 26, 132, 26, 145, 17, 161, 12, 176, 10, 177, 11, 24,

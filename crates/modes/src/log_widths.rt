@@ -4,7 +4,7 @@ ghost use Rattle.modes.specs.LogWidths.{log_width};
 
 use laws::wide;
 
-// The list `logWidths`.
+// The list `log_widths`.
 const LOG_WIDTHS: [u8; 21] = [
     0, 0, 0, 0, 0, 0, 0, 0, 8, 8, 8, 8, 16, 16, 16, 21, 21, 24, 29, 34, 36,
 ];

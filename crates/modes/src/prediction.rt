@@ -2,10 +2,10 @@
 ghost use Rattle.std.specs.Prelude.{◌≡◌, ◌<◌};
 ghost use Rattle.modes.specs.Prediction.{coef_of, beta_of};
 
-// The list `predCoefs`.
+// The list `pred_coefs`.
 const PRED_COEF: [f32; 4] = [0.8984375, 0.796875, 0.6484375, 0.5];
 
-// The list `betaCoefs`.
+// The list `beta_coefs`.
 const BETA_COEF: [f32; 4] = [
     0.920013427734375,
     0.67999267578125,
@@ -13,7 +13,7 @@ const BETA_COEF: [f32; 4] = [
     0.20001220703125,
 ];
 
-// `betaIntra`.
+// `beta_intra`.
 const BETA_INTRA: f32 = 0.149993896484375;
 
 // The share of the last frame's energy.

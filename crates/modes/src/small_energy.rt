@@ -2,7 +2,7 @@
 ghost use Rattle.std.specs.Prelude.{◌≡◌};
 ghost use Rattle.modes.specs.SmallEnergy.{small_energy};
 
-// The list `smallEnergy`.
+// The list `small_energy`.
 const SMALL_ENERGY: [u8; 3] = [2, 1, 0];
 
 // The whole table, to lend to a table read or write.

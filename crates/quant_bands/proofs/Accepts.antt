@@ -97,7 +97,8 @@ module _ (c lm start end intra : ℤ) (s : List ℕ) (d : Reader) (es : List Flo
   pub coarse-refused : (n ≡ 0 → ⊥) → after (Refused n) es ≡ coarse_reading c lm start end intra s d es
   coarse-refused h =
       rw g
-      (said-refused (refusal_coarse c lm start end intra s d es) (coarse (clip c) (clip lm) (is_intra intra) (clip start) (clip end) s d es) es (λ z. h (g ∙ z)))
+      (said-refused (refusal_coarse c lm start end intra s d es) (coarse (clip c) (clip lm) (is_intra intra) (clip start) (clip end) s d es) es
+      (λ z. h (g ∙ z)))
 
 -- of the last bits
 module _ (c start end : ℤ) (fine priorities : List ℤ) (left : ℤ) (s : List ℕ) (d : Reader) (es : List Float) {n : ℕ}

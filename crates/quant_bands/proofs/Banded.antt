@@ -1,7 +1,7 @@
 -- One energy and one band of the coarse decode, from what the calls ensure, and the reader after them. Assumes nothing.
 use Prim.Native.Nat.{ℕ, zero, suc, ◌+◌, ◌-◌, ◌/◌, ◌%◌, ◌≤◌, ◌<◌}
 use mathlib.Core.Path.{◌≡◌, ap, ◌∙◌}
-use mathlib.Core.Bool.{Bool, true, false, cond}
+use mathlib.Core.Bool.{Bool, true, cond}
 use mathlib.Core.List.{List}
 use native.Mathlib.Omega.{arith}
 use lib.Dec.{leb}
@@ -17,7 +17,7 @@ use Rattle.entdec.proofs.Chain.{ready_less}
 use Rattle.quant_bands.specs.declared.coarse_band.Kind.{Kind}
 use Rattle.quant_bands.specs.Steps.{read_step}
 use Rattle.quant_bands.specs.Prediction.{predicted, handed_on}
-use Rattle.quant_bands.specs.Coarse.{CoarseState, coarse_state, kind_of, coarse_step, energy_at, first_at, second_at, coarse_band}
+use Rattle.quant_bands.specs.Coarse.{CoarseState, kind_of, coarse_step, energy_at, first_at, second_at, coarse_band}
 use Rattle.quant_bands.proofs.Stepping.{step_ready}
 use Rattle.quant_bands.proofs.BandKind.{kind-legal}
 
@@ -42,15 +42,6 @@ module _ (m : Kind) (s : List ℕ) (k : ℕ) (g : CoarseState) where
   -- the energy at place k, as a call has it
   abbrev pub place_at : CoarseState
   place_at = cond (leb 21 k) (second_at m s (k - 21) g) (first_at m s k g)
-
-  -- the code's channel is the one that the place belongs to
-  pub channel-is : (t : Bool) → leb 21 k ≡ t → {prev h a b : Float} {es : List Float} {d : Reader} → prev ≡ cond t g.second g.first
-      → coarse_step es h d ≡ energy_at m s k prev g.next g.energies → a ≡ cond t g.first h → b ≡ cond t h g.second → coarse_state es a b d ≡ place_at
-  channel-is true e p q u v =
-      let f : k - 21 + 21 ≡ k = omega (arith, leb-true 21 k e) in
-      let y = rw p at q in
-      rw (e, u, v, f, ← y)
-  channel-is false e p q u v = let y = rw p at q in rw (e, u, v, ← y)
 
 -- ---- one band
 

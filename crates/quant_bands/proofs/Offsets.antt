@@ -1,9 +1,8 @@
 -- What a last bit adds is the exact power of two. Assumes nothing.
 use Prim.Native.Nat.{ℕ, ◌+◌, ◌-◌, ◌*◌, ◌%◌, ◌^◌, ◌<◌}
 use mathlib.Core.Path.{◌≡◌, refl}
-use lib.Dec.{T, eqb, lit≤}
-use lib.IntN.{pos}
-use lib.Ieee.{binary32, of_int, in_float, sub, mul, div}
+use lib.Dec.{eqb, lit≤}
+use lib.Ieee.{of_int, sub, mul, div}
 use Rattle.laws.proofs.Tables.{few-at, ◌&◌, end}
 use Rattle.laws.proofs.Within.{Within}
 use Rattle.quant_bands.specs.Finalise.{offset_of}
@@ -14,16 +13,6 @@ use Rattle.quant_bands.specs.Promises.{power, LastBitExact}
 -- the shift loses no bit
 pub shifted : (fine : ℕ) → fine < 8 → 1 * 2 ^ (13 - fine) % 4294967296 ≡ 2 ^ (13 - fine)
 shifted = few-at (λ n. 1 * 2 ^ (13 - n) % 4294967296 ≡ 2 ^ (13 - n)) 8 (refl & refl & refl & refl & refl & refl & refl & refl & end)
-
--- so the power is an f32
-pub shift_fits : (fine : ℕ) → fine < 8 → T (in_float binary32 (pos (1 * 2 ^ (13 - fine) % 4294967296)))
-unfolding in_float
-shift_fits = few-at (λ n. T (in_float binary32 (pos (1 * 2 ^ (13 - n) % 4294967296)))) 8 (tt & tt & tt & tt & tt & tt & tt & tt & end)
-
--- and so is the bit
-pub bit-fits : (bit : ℕ) → bit < 2 → T (in_float binary32 (pos bit))
-unfolding in_float
-bit-fits = few-at (λ n. T (in_float binary32 (pos n))) 2 (tt & tt & end)
 
 -- ---- the power of two
 

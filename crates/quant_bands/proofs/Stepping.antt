@@ -60,11 +60,6 @@ small_is s d e f = rw (f, e, small-value _ (small-below s d))
 
 -- ---- minus a bit
 
--- the code's value is the definition's
-pub minus_is : (s : List ℕ) (d : Reader) {y : ReadSymbol} {z : ℤ} → y ≡ read_sym (bit 1) s d → z ≡ with_sign true y.value
-    → step_read z y.next ≡ read_minus s d
-minus_is s d e f = rw (f, e)
-
 -- ---- sizes
 
 -- a Laplace value is one of the domain

@@ -1,28 +1,15 @@
 -- The answer's figures and lists are the definition's, where its numbers are. Assumes nothing.
-use Prim.Native.Nat.{ℕ, ◌<◌}
-use mathlib.Core.Bool.{Bool, true, false, cond}
+use Prim.Native.Nat.{ℕ}
+use mathlib.Core.Bool.{Bool}
 use mathlib.Core.List.{List}
 use mathlib.Core.Path.{◌≡◌}
-use native.Mathlib.Omega.{arith}
-use lib.IntN.{ℤ, pos}
-use mir.Syntax.{w32}
-use mir.Val.{of_z, to_z}
-use mir.Facts.{to_z_pos}
+use lib.IntN.{ℤ}
 use Rattle.entdec.specs.declared.Reader.{Reader}
 use Rattle.entenc.specs.Write.{Wr}
 use Rattle.rate_spec.specs.Types.{AllocOut}
 use Rattle.rate.specs.Question.{lists}
 use Rattle.rate.specs.Answer.{read_numbers, read_figures, written_numbers, written_figures}
 use Rattle.rate.proofs.Joined.{Numbered}
-
--- a count below 2^31 comes back from an i32
-pub signed-at : {n : ℕ} {z : ℤ} → z ≡ pos n → n < 2147483648 → to_z w32 (of_z w32 z) ≡ pos n
-signed-at e h = rw e (to_z_pos w32 h)
-
--- a flag fits in an i32
-pub flag-lt : (d : Bool) → cond d 1 0 < 2147483648
-flag-lt true = omega arith
-flag-lt false = omega arith
 
 -- of an allocation that was read
 pub figures-read : {x : AllocOut × Reader} {coded balance i : ℕ} {d : Bool} {w : Reader} → Numbered x coded balance i d w

@@ -1,5 +1,5 @@
 -- A list that was filled over a frame's bands holds the figures there. Assumes nothing.
-use Prim.Native.Nat.{ℕ, ◌-◌, ◌≤◌, ◌<◌}
+use Prim.Native.Nat.{ℕ, ◌-◌, ◌≤◌}
 use mathlib.Core.List.{List}
 use mathlib.Core.Path.{◌≡◌, ap, ◌∙◌}
 use native.Mathlib.Omega.{arith}
@@ -7,7 +7,7 @@ use lib.ListN.{get_or, length}
 use Rattle.laws.proofs.Lists.{fill_in, fill-length}
 use Rattle.laws.specs.Lists.{fill}
 use Rattle.rate_spec.specs.Types.{AllocIn}
-use Rattle.rate_bands.specs.Tilts.{Holds, Tilt, Tilts}
+use Rattle.rate_bands.specs.Tilts.{Holds}
 
 -- a filled list is as long as it was
 pub filled-length : {A : Type 0} (f : ℕ → A) (n start : ℕ) (m : List A) {l : List A} → l ≡ fill f start n m → length l ≡ length m
@@ -18,8 +18,3 @@ module _ (a : AllocIn) where
   pub filled : (h : ℕ → ℕ) (l₀ : List ℕ) {l : List ℕ} → a.end ≤ 21 → length l₀ ≡ 21 → l ≡ fill h a.start (a.end - a.start) l₀ → Holds a h l
   filled h l₀ g n e j p q =
       ap (λ (k : List ℕ). get_or k j 0) e ∙ fill_in h (a.end - a.start) a.start j l₀ 0 p (omega arith) (omega arith)
-
-  -- entry j of each list is the figure of band j
-  pub tilt_at : {scales ups downs : List ℕ} → Tilts a scales ups downs → (j : ℕ) → a.start ≤ j → j < a.end
-      → Tilt a j (get_or scales j 0) (get_or ups j 0) (get_or downs j 0)
-  tilt_at t j p q = record { scale-is = t.scales_are j p q; up_is = t.ups_are j p q; down_is = t.downs_are j p q }

@@ -67,7 +67,8 @@ module _ (start : ℕ) where
         (leb-same (bits + 1) (bits_for start i + 1) bits (bits_for start i) (λ p. omega arith) (λ p. omega arith))
 
     -- and the nearer of two by twice the bits and the sum of their costs
-    pub near_is : (lo hi : ℕ) → le_z (figure -ℤ signed_entry start lo) (signed_entry start hi -ℤ figure) ≡ leb (2 * bits) (bits_for start lo + bits_for start hi)
+    pub near_is : (lo hi : ℕ) → le_z (figure -ℤ signed_entry start lo) (signed_entry start hi -ℤ figure)
+        ≡ leb (2 * bits) (bits_for start lo + bits_for start hi)
     near_is lo hi =
         let x = bits_for start lo in
         let y = bits_for start hi in

@@ -1,12 +1,12 @@
 -- What the tests of the numbers tell, and what a passed gate gives. Assumes nothing.
-use Prim.Native.Nat.{ℕ, zero, suc, ◌+◌, ◌≤◌, ◌<◌}
+use Prim.Native.Nat.{ℕ, zero, suc, ◌≤◌, ◌<◌}
 use mathlib.Core.Path.{◌≡◌, refl, ap}
-use mathlib.Core.Bool.{Bool, true, false, ◌&&◌, and-eq-true_iff, true≢false}
+use mathlib.Core.Bool.{Bool, true, false, ◌&&◌, and-eq-true_iff}
 use native.Mathlib.Omega.{arith}
 use lib.Dec.{eqb}
 use lib.IntN.{ℤ, pos, negsuc}
-use borrow.Author.Tests.{leb-true, ltb-true, eqb-false}
-use Rattle.laws.specs.Signs.{clip, in_range, is_neg}
+use borrow.Author.Tests.{leb-true, eqb-false}
+use Rattle.laws.specs.Signs.{clip, in_range}
 use Rattle.laws.proofs.Tests.{split_on}
 use Rattle.laws.proofs.Signs.{range_clip}
 use Rattle.laws.proofs.Differences.{clip-sub}
@@ -22,16 +22,6 @@ use Rattle.rate_cache.specs.Answers.{said}
 use Rattle.rate_cache.specs.Lookups.{refusal_of, level_of, band_ok, bits_ok, HasRow, no_row, no_entry}
 
 -- ---- LM + 1
-
--- LM -1 has the first row of the index
-pub level-none : (z : ℤ) → is_neg z ≡ true → 0 ≡ level_of z
-level-none (pos n) h = absurd (let l = ltb-true n 0 h in omega arith)
-level-none (negsuc n) h = omega (arith, clip-sub 1 (suc n))
-
--- any other LM one further on
-pub level-some : (z : ℤ) → is_neg z ≡ false → clip z + 1 ≡ level_of z
-level-some (pos n) h = refl
-level-some (negsuc n) h = absurd (true≢false h)
 
 -- so an LM in its domain has one of the five
 level-lt : (z : ℤ) → in_range (negsuc 0) (pos 3) z ≡ true → level_of z < 5
@@ -109,10 +99,6 @@ pub index-pass : (i : ℤ) → refusal_of (in_range (pos 0) (pos 40) i) 0 ≡ 0 
 index-pass i h = range_clip (pos 0) 40 i (passed true (in_range (pos 0) (pos 40) i) true 0 true true h).no_1
 
 -- ---- a gate's two arms
-
--- the numbers are right: the rule of the call decides
-pub gate_on : (n : Bool) (special : ℕ) {r o : ℕ} → r ≡ refusal_of true o → o ≡ special → n ≡ true → r ≡ refusal_of n special
-gate_on n special p q e = rw (p, q, e)
 
 -- they are not: 1
 pub gate_off : (n : Bool) (special : ℕ) {r : ℕ} → r ≡ refusal_of false 0 → n ≡ false → r ≡ refusal_of n special

@@ -2,7 +2,7 @@
 use Prim.Native.Nat.{ℕ, suc, ◌+◌, ◌-◌, ◌≤◌, ◌<◌}
 use mathlib.Core.Bool.{Bool, true, false}
 use mathlib.Core.List.{List, [], ◌∷◌}
-use mathlib.Core.Path.{◌≡◌, refl, ap, sym, ◌∙◌}
+use mathlib.Core.Path.{◌≡◌, ap, sym, ◌∙◌}
 use native.Mathlib.Omega.{arith}
 use lib.ListN.{length, get_or, set, length-set}
 use lib.Seq.{drop-cons, drop-set-lt, get_or-set_same}
@@ -15,11 +15,7 @@ use Rattle.rate_bands.specs.Inputs.{AllocCountsOk, bare}
 use Rattle.rate_bands.specs.declared.AllocCounts.{AllocCounts}
 use Rattle.rate_skip.specs.declared.RoundFigures.{RoundFigures}
 use Rattle.rate_skip.specs.Asks.{when_asked}
-use Rattle.rate_skip.specs.Rounds.{RoundIn, SkipIn, skip_ending, kept_of, round_of, round_figures}
-
--- before the first round no band has kept anything
-pub kept-none : (end : ℕ) (l : List ℕ) → kept_of end end l ≡ []
-kept-none end l = let e : end - end ≡ 0 = omega arith in rw e
+use Rattle.rate_skip.specs.Rounds.{RoundIn, skip_ending, kept_of, round_of, round_figures}
 
 -- what the dropped band kept is stored below what the others kept
 pub kept_next : (end coded x : ℕ) (l : List ℕ) → 0 < coded → coded ≤ end → coded - 1 < length l
@@ -37,17 +33,6 @@ module _ {σ : Type 0} (f : AllocCounts) (bits : List ℕ) (A : Ask σ) (low : �
     pub sound : Sound (bare f) (r.coded - suc low) r
     pub within : holds (bare f) (λ j. get_or bits j 0) r ≤ 81600
     pub same : skip_ending (skip (bare f) (λ j. get_or bits j 0) A (r.coded - suc low) r s) ≡ all
-
-  -- before the first round
-  pub going-first : (left reserve : ℕ) (s : σ) → SkipIn f bits low left reserve
-      → Going (skip_ending (skip (bare f) (λ j. get_or bits j 0) A (f.end - suc low) (round_of f.end left reserve []) s)) (round_of f.end left reserve []) s
-  going-first left reserve s o =
-      record {
-        above = o.low-lt;
-        sound = record { above = omega (arith, o.start-le, o.low-lt); below = o.frame.end-le; reserve-is = o.reserve-is };
-        within = omega (arith, o.within);
-        same = refl;
-      }
 
   module _ {all : Round × Bool × σ} {r : Round} {s : σ} (g : Going all r s) where
     -- no band is left to drop

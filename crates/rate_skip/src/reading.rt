@@ -89,7 +89,8 @@ pub fn skip_read(
 // The first band whose channels are coded as one, where something is reserved for saying so.
 pub fn intensity_read(f: AllocCounts, coded: usize, reserve: u32, s: &[u8], d: Reader) -> ReadBand
     requires { AllocCountsOk f × (f.start < coded) × (coded ≤ 21) × Ready 2 d }
-    ensures { ((result.band, result.next) ≡ ask_intensity (bare f) (read_ask s.now) (round_of coded 0 reserve []) d) × (result.band ≤ coded) × Ready 1 result.next }
+    ensures { ((result.band, result.next) ≡ ask_intensity (bare f) (read_ask s.now) (round_of coded 0 reserve []) d)
+        × (result.band ≤ coded) × Ready 1 result.next }
 {
     let start = f.start;
     if reserve == 0 {

@@ -125,7 +125,8 @@ module _ (C n den lg : ℕ) where
       fine = fine_of C n den lg (min x cap)
 
       go : (t : Bool) → Fair C x
-          (cond t (spill C (min x cap - 8 * C * fine) fine (prio_of C n den lg (min x cap)) (x - cap) balance) (spill C (min x (8 * C)) 0 1 (x - 8 * C) balance))
+          (cond t (spill C (min x cap - 8 * C * fine) fine (prio_of C n den lg (min x cap)) (x - cap) balance)
+          (spill C (min x (8 * C)) 0 1 (x - 8 * C) balance))
       go true =
           let e : min x cap - 8 * C * fine + 8 * C * fine + (x - cap) ≡ x = omega (arith, fine-paid (min x cap)) in
           rw e at (spill_fair (min x cap - 8 * C * fine) fine (prio_of C n den lg (min x cap)) (x - cap) balance h (fine_le (min x cap)))

@@ -58,7 +58,8 @@ module _ (C n den lg : ℕ) (low : 1 ≤ C) where
     band = split_of C n den lg cap x balance
 
     several_is : 1 < n
-        → band ≡ spill C (min x cap - 8 * C * fine_of C n den lg (min x cap)) (fine_of C n den lg (min x cap)) (prio_of C n den lg (min x cap)) (x - cap) balance
+        → band ≡ spill C (min x cap - 8 * C * fine_of C n den lg (min x cap)) (fine_of C n den lg (min x cap)) (prio_of C n den lg (min x cap))
+        (x - cap) balance
     unfolding split_of
     several_is h = rw (lt-ltb 1 n h)
 

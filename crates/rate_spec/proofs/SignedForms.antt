@@ -49,7 +49,8 @@ module _ (a : AllocIn) (j : ℕ) where
   trimmed-at x = rw (trim-is, add-sub x (trim_up a j) (trim_down a j), clip-sub (x + trim_up a j) (trim_down a j))
 
 -- the corrections for few bits look at u - 21·den as the RFC does, at u with 21·den on the other side
-corrected : (u den p q : ℕ) → sub_ℕ u (21 * den) +ℤ pos (cond (lt_z (sub_ℕ u (21 * den)) (pos (16 * den))) p (cond (lt_z (sub_ℕ u (21 * den)) (pos (24 * den))) q 0))
+corrected
+    : (u den p q : ℕ) → sub_ℕ u (21 * den) +ℤ pos (cond (lt_z (sub_ℕ u (21 * den)) (pos (16 * den))) p (cond (lt_z (sub_ℕ u (21 * den)) (pos (24 * den))) q 0))
     ≡ sub_ℕ (u + cond (ltb u (37 * den)) p (cond (ltb u (45 * den)) q 0)) (21 * den)
 corrected u den p q =
     let e : 16 * den + 21 * den ≡ 37 * den = omega arith in

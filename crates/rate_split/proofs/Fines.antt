@@ -1,10 +1,9 @@
 -- The steps to a band's fine bits and priority, put together. Assumes nothing.
-use Prim.Native.Nat.{ℕ, ◌+◌, ◌-◌, ◌*◌, ◌/◌, ◌≤◌, min}
+use Prim.Native.Nat.{ℕ, ◌+◌, ◌-◌, ◌*◌, ◌/◌, min}
 use mathlib.Core.Bool.{cond}
 use mathlib.Core.Path.{◌≡◌}
 use lib.Dec.{leb, ltb}
 use Rattle.rate_spec.specs.Split.{with_offset, wanted, fine_of, prio_of}
-use Rattle.rate_spec.proofs.Bands as bands
 
 module _ (c n den lg b : ℕ) {x w e : ℕ} (x-is : x ≡ with_offset n den lg b) (w-is : w ≡ (x - 17 * den) / den / 8)
     (e-is : e ≡ min 8 (cond (ltb (b / 8) (c * w)) (b / (8 * c)) w)) where
@@ -12,10 +11,6 @@ module _ (c n den lg b : ℕ) {x w e : ℕ} (x-is : x ≡ with_offset n den lg b
   pub fine-is : e ≡ fine_of c n den lg b
   unfolding fine_of wanted
   fine-is = rw (← x-is, ← w-is) e-is
-
-  -- the bits pay for them
-  pub fine-paid : 8 * c * e ≤ b
-  fine-paid = rw fine-is (bands.fine-paid c n den lg b)
 
   -- the priority
   pub prio-is : {p : ℕ} → p ≡ cond (leb x (8 * den * e + 21 * den)) 1 0 → p ≡ prio_of c n den lg b

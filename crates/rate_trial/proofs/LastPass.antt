@@ -34,10 +34,6 @@ module _ (f : AllocCounts) (caps : List ℕ) (x : ℕ → ℕ) where
       let z : a.end - a.end ≡ 0 = omega arith in
       (omega arith, omega arith, omega arith, rw z, rw z (sym (sum-none g a.end)))
 
-  -- all bands
-  pub down-end : (g : ℕ → ℕ) (j : ℕ) {done : Bool} {sum : ℕ} → j ≤ a.start → Down g j done sum → sum ≡ sum_of g a.start (a.end - a.start)
-  down-end g j h d = let e : j ≡ a.start = omega arith in rw e at d.4
-
   module _ (j : ℕ) (low : a.start < j) {done : Bool} {th t : ℕ} (p : th ≡ threshold (bare f) (j - 1)) (q : t ≡ x (j - 1)) where
     reached_on : j ≤ a.end → done ≡ reached a x j (a.end - j) → (leb th t || done) ≡ reached a x (j - 1) (a.end - (j - 1))
     unfolding threshold

@@ -55,19 +55,6 @@ module _ (a : AllocIn) (x : ℕ → ℕ) where
       sum-down (λ i. floored a (x i)) j a.end (omega arith) d.1 d.4 (e ∙ ap (floored a) q),
     )
 
-  -- no band has its threshold
-  pub above-end : (j : ℕ) {s : ℕ} → j ≤ a.start → Above j s → TopOf a x a.start s
-  above-end j h d =
-      let e : j ≡ a.start = omega arith in
-      record {
-        start-le = omega arith;
-        le-end = omega arith;
-        none_above = rw e at d.3;
-        one_below = λ g. absurd (omega arith);
-        sum_is = rw e at d.4;
-        sum-le = rw e at d.2;
-      }
-
 module _ (start : ℕ) (caps : List ℕ) (x : ℕ → ℕ) where
   -- the bands from the first up to j take s, each up to its cap
   abbrev pub Rest : ℕ → ℕ → ℕ → Type 0
@@ -83,10 +70,6 @@ module _ (start : ℕ) (caps : List ℕ) (x : ℕ → ℕ) where
   pub rest_on : (b j : ℕ) {s t k : ℕ} → j < b → Rest b j s → t ≡ x j → k ≡ min t (get_or caps j 0) → get_or caps j 0 ≤ 32767 → Rest b (j + 1) (s + k)
   rest_on b j h d q e g =
       (omega arith, omega arith, omega arith, sum-up (capped caps x) start j d.0 d.3 (e ∙ ap (λ (n : ℕ). min n (get_or caps j 0)) q))
-
-  -- all bands below b
-  pub rest_end : (b j : ℕ) {s : ℕ} → b ≤ j → b ≤ 21 → Rest b j s → (s ≡ sum_of (capped caps x) start (b - start)) × (s ≤ 688107)
-  rest_end b j h g d = let e : j ≡ b = omega arith in (rw e at d.3, omega arith)
 
 module _ (a : AllocIn) (x : ℕ → ℕ) where
   -- of the bands from j up one has its threshold where one of those from a band above j up has

@@ -19,7 +19,17 @@ use Rattle.reader_held.specs.declared.Step.{Step}
 use Rattle.reader_held.specs.declared.ValueStep.{ValueStep}
 use Rattle.reader_held.specs.declared.AllocStep.{AllocStep}
 use Rattle.reader_held.specs.declared.EnergiesStep.{EnergiesStep}
-use Rattle.reader_held.specs.Held.{Stepped, said_symbol, said_step, said_value, said_value_step, said_allocated, said_alloc_step, said_energies, said_energies_step}
+use Rattle.reader_held.specs.Held.{
+  Stepped,
+  said_symbol,
+  said_step,
+  said_value,
+  said_value_step,
+  said_allocated,
+  said_alloc_step,
+  said_energies,
+  said_energies_step,
+}
 
 -- the answer that says this
 abbrev pub back_symbol : Said ℕ → Symbol

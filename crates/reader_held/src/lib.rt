@@ -32,7 +32,7 @@ pub struct EcDec<'a> {
     pub num: Reader,
 }
 
-// A reader, and 0 or the number of the refusal: an enum may hold no reference.
+// A reader, and 0 or the number of the refusal.
 #[derive(Clone, Copy)]
 pub struct Opened<'a> {
     pub dec: EcDec<'a>,

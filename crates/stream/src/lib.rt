@@ -18,8 +18,7 @@ pub struct Record {
     pub next: u64,
 }
 
-// What a frame answers: code 0, the record and the reader after it; or the number of the refusal, and both as they were. (An enum may hold no
-// array.)
+// What a frame answers: code 0, the record and the reader after it; or the number of the refusal, and both as they were.
 #[derive(Clone, Copy)]
 pub struct Framed {
     pub code: u32,

@@ -1,13 +1,13 @@
 -- The energies of a line, field by field, and what a line answers. Assumes nothing.
 use Prim.Native.Nat.{ℕ, zero, suc, ◌+◌, ◌-◌, ◌≤◌, ◌<◌}
 use mathlib.Core.Path.{◌≡◌, refl, sym, ap, ◌∙◌}
-use mathlib.Core.Bool.{true, false, ◌&&◌, ◌||◌, and-true, and-false, and_assoc, and-eq-true_iff}
+use mathlib.Core.Bool.{true, ◌&&◌, ◌||◌, and-true, and_assoc, and-eq-true_iff}
 use mathlib.Core.List.{List, [], ◌∷◌, ◌++◌, map, append-nil}
 use native.Mathlib.Numerals.{add-one}
 use native.Mathlib.Omega.{arith}
 use lib.Dec.{leb, eqb}
 use lib.IntN.{ℤ, pos, negsuc, nat_abs}
-use lib.Ieee.{Float, binary32, of_bits}
+use lib.Ieee.{Float}
 use lib.ListN.{length, get_or, drop, set, length-drop, length-map, drop_of_length-le, get_or-map}
 use lib.Seq.{get_or-drop, sets, sets-eq}
 use borrow.Author.Tests.{eq-eqb, ne_eqb, leb-true}
@@ -25,7 +25,6 @@ use Rattle.text.specs.declared.Whole.TheVariants as whole
 use Rattle.stream.specs.declared.Record.{Record}
 use Rattle.stream.specs.Frame.{fresh}
 use Rattle.stream_saved.specs.declared.Energy.{Energy}
-use Rattle.stream_saved.specs.declared.Energy.TheVariants.{Is, Wild, Wrong}
 use Rattle.stream_saved.specs.declared.Fields.{Fields}
 use Rattle.stream_saved.specs.declared.Restored.{Restored}
 use Rattle.stream_saved.specs.Fields.{Small, energy_of, not_wrong, not_wild, float_of}
@@ -45,21 +44,6 @@ kept_small (whole.Is z) = cond-by Small (in_range (negsuc 32767) (pos 32767) z) 
 kept_small whole.Wrong = tt
 
 -- ---- a field put to the others
-
-module _ (f : Fields) (k : ℕ) {v : Energy} where
-  -- a finite energy is stored, and keeps both marks
-  pub one_is : (x : Float) → v ≡ Is x → ◌≡◌ {A = Fields} (record { good = f.good; tame = f.tame; e = set f.e k x }) (read_field f k v)
-  one_is x p = rw (p, and-true f.good, and-true f.tame)
-
-  -- one that is not finite stores zero and clears `tame`
-  pub one_wild : v ≡ Wild → ◌≡◌ {A = Fields} (record { good = f.good; tame = false; e = set f.e k (of_bits binary32 0) }) (read_field f k v)
-  unfolding of_bits
-  one_wild p = rw (p, and-true f.good, and-false f.tame)
-
-  -- one that is malformed stores zero and clears `good`
-  pub one_wrong : v ≡ Wrong → ◌≡◌ {A = Fields} (record { good = false; tame = f.tame; e = set f.e k (of_bits binary32 0) }) (read_field f k v)
-  unfolding of_bits
-  one_wrong p = rw (p, and-false f.good, and-true f.tame)
 
 -- ---- the loop over the fields
 

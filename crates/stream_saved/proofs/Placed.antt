@@ -9,7 +9,6 @@ use native.Mathlib.Omega.{arith}
 use lib.Ieee.{Float, nan}
 use lib.Ieee.Scale.{finite}
 use lib.ListN.{length, get_or, set, take}
-use lib.Seq.{take_all}
 use borrow.Author.Tests.{leb-true}
 use Rattle.laws.specs.Lists.{every}
 use Rattle.entcode.specs.Said.{answer, lent_after}
@@ -50,11 +49,6 @@ module _ (l : List Float) (buf : List ℕ) (at : ℕ) where
       let e : 9 * (k + 1) ≡ 9 * k + 9 = omega arith in
       rw (e, add-one k, more l k h) (put-join (9 * k) 9 (texts (take k l)) (9 ∷ energy_text (get_or l k nan)) p w)
 
-  -- all 42
-  pub put_all : (k : ℕ) {last : List ℕ} {r : ℕ} → k ≡ 42 → length l ≡ 42 → PlacedText (9 * k) buf at (texts (take k l)) r last
-      → PlacedText 378 buf at (texts l) r last
-  put_all k e h p = rw (e, take_all 42 l (omega arith)) at p
-
 -- the whole line
 pub put-line : (rec : Record) (buf : List ℕ) {mid last : List ℕ} {r q : ℕ} → PlacedText 11 (set buf 0 69) 1 (9 ∷ decimal_of rec.next) r mid
     → PlacedText 378 mid r (texts rec.energies) q last
@@ -74,7 +68,8 @@ save-opens n r h =
     (leb-true 390 n p.no_2, leb-true r.next 4294967295 p.no_1, p.no_3)
 
 -- number 0: the line stands at the front, and its length is answered
-pub said-line : (no : ℕ) (line buf : List ℕ) {n : ℕ} {last : List ℕ} → no ≡ 0 → PlacedText 390 buf 0 line n last → after (Done n) last ≡ answer_saved no line buf
+pub said-line : (no : ℕ) (line buf : List ℕ) {n : ℕ} {last : List ℕ} → no ≡ 0 → PlacedText 390 buf 0 line n last → after (Done n) last
+    ≡ answer_saved no line buf
 unfolding answer lent_after
 said-line zero line buf h p = rw (p.next, p.bytes, zero-add (length line))
 said-line (suc n) line buf h p = absurd (omega arith)

@@ -35,7 +35,7 @@ pub enum Saved {
     Refused(u32),
 }
 
-// What restoring answers: code 0 and the record, or the number of the refusal and a record that every call refuses. (An enum may hold no array.)
+// What restoring answers: code 0 and the record, or the number of the refusal and a record that every call refuses.
 #[derive(Clone, Copy)]
 pub struct Restored {
     pub code: u32,

@@ -84,7 +84,8 @@ module _ (most : ℕ) where
   ended-lines-join : (k s t : List ℕ) → lines_ended most k (s ++ t) ≡ lines_ended most k s ++ lines_ended most (kept_after most k s) t
   unfolding lines_ended kept_after
   ended-lines-join k [] t = refl
-  ended-lines-join k (b ∷ s) t = ap (ended k b) (ended-lines-join (kept_after_byte most k b) s t) ∙ ended-join k b (lines_ended most (kept_after_byte most k b) s)
+  ended-lines-join k (b ∷ s) t = ap (ended k b) (ended-lines-join (kept_after_byte most k b) s t)
+      ∙ ended-join k b (lines_ended most (kept_after_byte most k b) s)
       (lines_ended most (kept_after most (kept_after_byte most k b) s) t)
 
   -- ---- for the code
@@ -142,12 +143,6 @@ module _ (most : ℕ) where
         moves = λ (w : at < length s). omega arith;
       }
 
-  -- the block ends before the line does
-  pub filled-at-end : (k m s : List ℕ) (i at n : ℕ) → i ≤ length s → length s ≤ i → n ≤ most → SameLines most k (drop i s) m (drop at s)
-      → Filled most s at m (record { at = i; kept = n; ended = false }) k
-  filled-at-end k m s i at n g h f p =
-      record { lines = sym p.lines; kept = sym p.kept; few = f; inside = g; moves = λ (w : at < length s). omega arith }
-
   -- ---- the lines of a whole stream
 
   -- a byte more of what is kept is what is kept of a byte more
@@ -180,7 +175,8 @@ module _ (most : ℕ) where
       go : (x : Bool) → lines_ended most [] s ++ kept_after most [] s ∷ [] ≡ map (cut_to most) (glue_all [] (separated 10 s))
           → lines_ended most (cut_to most (k ++ b ∷ [])) s ++ kept_after most (cut_to most (k ++ b ∷ [])) s ∷ [] ≡ map (cut_to most)
           (glue_all (k ++ b ∷ []) (separated 10 s))
-          → cond x (cut_to most k ∷ lines_ended most (cond x [] (push_of most (cut_to most k) b)) s) (lines_ended most (cond x [] (push_of most (cut_to most k) b)) s)
+          → cond x (cut_to most k ∷ lines_ended most (cond x [] (push_of most (cut_to most k) b)) s)
+          (lines_ended most (cond x [] (push_of most (cut_to most k) b)) s)
           ++ kept_after most (cond x [] (push_of most (cut_to most k) b)) s ∷ []
           ≡ map (cut_to most) (glue_all k (cond x ([] ∷ separated 10 s) (glue b (separated 10 s))))
       go true p q =

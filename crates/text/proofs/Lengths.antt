@@ -41,7 +41,8 @@ line-length (b ∷ s) = go (eqb b 9) (line-length s)
     go false e = ap suc e ∙ sym (glue-fields-length b (fields_of s) (separated-some 9 s))
 
 -- the first two fields, and the others
-pub two-fields-length : (fs : List (List ℕ)) → 2 ≤ length fs → fields_length fs ≡ length (get_or fs 0 []) + length (get_or fs 1 []) + 2 + fields_length (drop 2 fs)
+pub two-fields-length : (fs : List (List ℕ)) → 2 ≤ length fs → fields_length fs ≡ length (get_or fs 0 []) + length (get_or fs 1 []) + 2
+    + fields_length (drop 2 fs)
 unfolding fields_length
 two-fields-length [] h = absurd (omega arith)
 two-fields-length (f ∷ []) h = absurd (omega arith)
@@ -83,7 +84,8 @@ figures-few [] p q k h g = omega arith
 figures-few (b ∷ []) p q k h g = omega arith
 figures-few (b ∷ c ∷ s) p q k h g =
     let m : ℕ = suc (length s) in
-    let l : 1 * 10 ^ m ≤ (0 * 10 + digit_of b) * 10 ^ m = mul-le-mul_right (10 ^ m) (by_le 1 (0 * 10 + digit_of b) (λ n. n) (λ n. absurd (some (omega arith)))) in
+    let l : 1 * 10 ^ m ≤ (0 * 10 + digit_of b) * 10 ^ m = mul-le-mul_right (10 ^ m)
+    (by_le 1 (0 * 10 + digit_of b) (λ n. n) (λ n. absurd (some (omega arith)))) in
     let a = after_pow 10 (0 * 10 + digit_of b) (c ∷ s) in
     let o : 1 * 10 ^ m ≡ 10 ^ m = one-mul (10 ^ m) in
     by_le k m (λ n. absurd (let w : 10 ^ k ≤ 10 ^ m = pow-le-pow_right (omega arith) n in omega arith)) (λ n. omega arith)

@@ -1,19 +1,15 @@
 -- Numbers as they are written into a buffer: digit by digit from the last, with a sign, and one text after the other. Assumes nothing.
 use Prim.Native.Nat.{ℕ, zero, suc, ◌+◌, ◌-◌, ◌/◌, ◌%◌, ◌<◌, ◌≤◌}
 use mathlib.Core.Path.{◌≡◌, refl, sym, ap, ◌∙◌}
-use mathlib.Core.Bool.{true, false, true≢false}
 use mathlib.Core.List.{List, [], ◌∷◌, ◌++◌}
 use native.Mathlib.Nat.{add-zero}
 use native.Mathlib.Numerals.{add-one}
 use native.Mathlib.Omega.{arith}
-use lib.IntN.{ℤ, pos, negsuc, nat_abs}
 use lib.ListN.{length, set, length-append}
 use lib.Seq.{sets}
-use borrow.Author.Tests.{ltb-true}
-use Rattle.laws.specs.Signs.{is_neg}
 use Rattle.laws.proofs.Lists.{sets_last}
 use Rattle.text.specs.Digits.{glyph_of, last_digits}
-use Rattle.text.specs.Written.{figures_of, decimal_of, signed_of, hex_word_of, PlacedText}
+use Rattle.text.specs.Written.{figures_of, decimal_of, hex_word_of, PlacedText}
 
 -- there are as many digits as were asked for
 pub digits-length : (base k n : ℕ) → length (last_digits base k n) ≡ k
@@ -90,26 +86,3 @@ put-decimal buf at n {k} p h q =
       bytes = q ∙ ap (λ (m : ℕ). sets buf at (last_digits 10 m n)) p;
       short = omega arith;
     }
-
--- a negative number in decimal
-text-minus : (z : ℤ) → is_neg z ≡ true → signed_of z ≡ 45 ∷ decimal_of (nat_abs z)
-text-minus (pos n) h = absurd (let l = ltb-true n 0 h in omega arith)
-text-minus (negsuc k) h = refl
-
--- any other
-text-plus : (z : ℤ) → is_neg z ≡ false → signed_of z ≡ decimal_of (nat_abs z)
-text-plus (pos n) h = refl
-text-plus (negsuc k) h = absurd (true≢false h)
-
-module _ (z : ℤ) (buf : List ℕ) (at : ℕ) {n r : ℕ} {last : List ℕ} (e : n ≡ nat_abs z) where
-  -- a minus, and the size after it
-  pub put-minus : is_neg z ≡ true → PlacedText 10 (set buf at 45) (at + 1) (decimal_of n) r last → PlacedText 11 buf at (signed_of z) r last
-  put-minus h p =
-      let t : signed_of z ≡ 45 ∷ decimal_of n = text-minus z h ∙ ap (λ (k : ℕ). 45 ∷ decimal_of k) (sym e) in
-      rw t (put_byte 10 45 (decimal_of n) buf at p)
-
-  -- the size alone
-  pub put-plus : is_neg z ≡ false → PlacedText 10 buf at (decimal_of n) r last → PlacedText 11 buf at (signed_of z) r last
-  put-plus h p =
-      let t : signed_of z ≡ decimal_of n = text-plus z h ∙ ap decimal_of (sym e) in
-      rw t (record { next = p.next; bytes = p.bytes; short = omega arith })

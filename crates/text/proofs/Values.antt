@@ -3,22 +3,19 @@ use Prim.Native.Nat.{ℕ, zero, suc, ◌+◌, ◌-◌, ◌*◌, ◌/◌, ◌%◌
 use mathlib.Core.Path.{◌≡◌, refl, sym, ap, ◌∙◌}
 use mathlib.Core.Bool.{Bool, true, false, cond, not, ◌&&◌, and-eq-true_iff}
 use mathlib.Core.List.{List, [], ◌∷◌}
-use native.Mathlib.Nat.{mul-le-mul_left, mul-le-mul, mul-one}
+use native.Mathlib.Nat.{mul-le-mul_left, mul-one}
 use native.Mathlib.Numerals.{add-one}
 use native.Mathlib.Omega.{arith}
 use lib.Dec.{leb, ltb, eqb}
-use lib.IntN.{ℤ}
-use lib.ListN.{length, get_or, drop, take, set, drop_of_length-le, length-drop}
+use lib.ListN.{length, get_or, drop, set, drop_of_length-le, length-drop}
 use lib.Seq.{sets}
 use borrow.Author.Tests.{lt-ltb, le-ltb, le-leb, lt-leb, eq-eqb, ne_eqb, ltb-true, leb-true}
-use Rattle.laws.specs.Signs.{in_range}
-use Rattle.laws.proofs.Lists.{drop-next, rest-is}
+use Rattle.laws.proofs.Lists.{drop-next}
 use Rattle.text.specs.declared.Number.{Number}
 use Rattle.text.specs.declared.Number.TheVariants.{Got, Bad}
-use Rattle.text.specs.declared.Whole.{Whole}
-use Rattle.text.specs.declared.Whole.TheVariants.{Is, Wrong}
+use Rattle.text.specs.declared.Whole.TheVariants.{Wrong}
 use Rattle.text.specs.Digits.{digit_of, all_digits, value_after}
-use Rattle.text.specs.Numbers.{got_if, digits_of, no_needless_zero, number_of, AtMost, plus, minus, whole_of, kept_in, bytes_of, hex_bytes, bytes_into}
+use Rattle.text.specs.Numbers.{got_if, digits_of, no_needless_zero, number_of, AtMost, whole_of, bytes_of, hex_bytes, bytes_into}
 
 -- a test that fails makes the whole fail
 pub and-false : (t : Bool) → (t && false) ≡ false
@@ -76,12 +73,6 @@ module _ (base most v : ℕ) (s : List ℕ) (i : ℕ) where
         go : (c : ℕ) (t : List ℕ) → digit_of c < base → digits_after base most v (c ∷ t) ≡ digits_after base most (v * base + digit_of c) t
         go c t k = simp (lt-ltb (digit_of c) base k)
 
--- a number of 32 bits with a digit more stays in 64
-pub more-fits : (v base d most : ℕ) → v ≤ most → most < 4294967296 → base < 4294967296 → d ≤ 16 → v * base + d < 18446744073709551616
-more-fits v base d most h m b k =
-    let p : v * base ≤ 4294967295 * 4294967295 = mul-le-mul {n₂ = 4294967295} {m₂ = 4294967295} (omega arith) (omega arith) in
-    omega arith
-
 -- ---- strict decimals
 
 -- no figure is no number
@@ -129,14 +120,6 @@ pub whole-none : (s : List ℕ) → length s ≡ 0 → Wrong ≡ whole_of s
 unfolding no_needless_zero
 whole-none [] h = refl
 whole-none (b ∷ s) h = absurd (omega arith)
-
--- a minus, and the size after it
-pub whole-minus : (s : List ℕ) → get_or s 0 0 ≡ 45 → minus (number_of 2147483648 (take (length s - 1) (drop 1 s))) ≡ whole_of s
-whole-minus s h = rw (eq-eqb (get_or s 0 0) 45 h, rest-is s 1)
-
--- no minus
-pub whole-plus : (s : List ℕ) → (get_or s 0 0 ≡ 45 → ⊥) → plus (number_of 2147483647 s) ≡ whole_of s
-whole-plus s h = rw (ne_eqb (get_or s 0 0) 45 h)
 
 -- ---- hex
 
@@ -237,11 +220,3 @@ unfolding bytes_into
 bytes-refused s out p q = let w : hex_bytes (length out) s ≡ false = cc in rw w (refl, refl)
 
 -- ---- in a range
-
--- a number in the range
-pub kept_in_lem : (lo hi z : ℤ) {w : Whole} {b : Bool} → w ≡ Is z → b ≡ in_range lo hi z → b ≡ true → Is z ≡ kept_in lo hi w
-kept_in_lem lo hi z p q r = let t : in_range lo hi z ≡ true = cc in rw (p, t)
-
--- a number outside it
-pub kept_out : (lo hi z : ℤ) {w : Whole} {b : Bool} → w ≡ Is z → b ≡ in_range lo hi z → b ≡ false → Wrong ≡ kept_in lo hi w
-kept_out lo hi z p q r = let t : in_range lo hi z ≡ false = cc in rw (p, t)

@@ -25,7 +25,21 @@ use Rattle.rate_spec.specs.Vectors.{threshold, slope, trim_up, trim_down, trimme
 use Rattle.rate_spec.specs.Trials.{halve, reached, floored, trial_takes, over, vector, sixtyfourths, kept_bits, bits_of}
 use Rattle.rate_spec.specs.Skips.{last_boost, skip_start, width_up_to, reserve_next, top_bits, asks, paid, keep, dropped, flag_of, skip}
 use Rattle.rate_spec.specs.Split.{with_offset, wanted, extra, spill, fine_of, prio_of, split_of}
-use Rattle.rate_spec.specs.Alloc.{skipped, degrees, spread, split_band, carried, band_of, first_round, dual_asked, left_of, finish, ask_intensity, ask_dual, alloc_from}
+use Rattle.rate_spec.specs.Alloc.{
+  skipped,
+  degrees,
+  spread,
+  split_band,
+  carried,
+  band_of,
+  first_round,
+  dual_asked,
+  left_of,
+  finish,
+  ask_intensity,
+  ask_dual,
+  alloc_from,
+}
 use Rattle.rate_spec.specs.Alloc.{alloc}
 use Rattle.rate_spec.specs.Answers.{decoder_ask as decoder}
 use Rattle.rate.specs.Question.{alloc_counts, no_entries, numbers_ok, refusal_read}
@@ -36,12 +50,18 @@ use Rattle.together.specs.Figures.{KnownFigures, answered}
 
 -- every figure at once
 pub known : KnownFigures
-unfolding answered count_leading_zeros every fill sum_of over_places edges edge width vectors vector_entry fractions fraction log_widths log_width capTable cap_entry
-    counts_ok renorm_steps cut_start cut_width refusal pull pulls decoded_place update byte_back fetch fetches read_bits fresh_reader read_sym reader_ok read_refusal Vn
-    answer lent_after pulses_at get_pulses cap_of skip_reserve stereo_fits intensity_reserve dual_reserve budget threshold slope trim_up trim_down trimmed vector_bits
-    lower_bits upper_bits interpolated halve reached floored trial_takes over vector sixtyfourths kept_bits bits_of last_boost skip_start width_up_to reserve_next top_bits
-    asks paid keep dropped flag_of skip with_offset wanted extra spill fine_of prio_of split_of skipped degrees spread split_band carried band_of first_round dual_asked
-    left_of finish ask_intensity ask_dual alloc_from alloc decoder alloc_counts no_entries numbers_ok refusal_read answer_read bands_ok refusal_finalise finalise spend_pass
+unfolding answered count_leading_zeros every fill sum_of over_places edges edge width vectors vector_entry fractions fraction log_widths log_width
+    capTable cap_entry
+    counts_ok renorm_steps cut_start cut_width refusal pull pulls decoded_place update byte_back fetch fetches read_bits fresh_reader read_sym
+    reader_ok read_refusal Vn
+    answer lent_after pulses_at get_pulses cap_of skip_reserve stereo_fits intensity_reserve dual_reserve budget threshold slope trim_up trim_down
+    trimmed vector_bits
+    lower_bits upper_bits interpolated halve reached floored trial_takes over vector sixtyfourths kept_bits bits_of last_boost skip_start width_up_to
+    reserve_next top_bits
+    asks paid keep dropped flag_of skip with_offset wanted extra spill fine_of prio_of split_of skipped degrees spread split_band carried band_of
+    first_round dual_asked
+    left_of finish ask_intensity ask_dual alloc_from alloc decoder alloc_counts no_entries numbers_ok refusal_read answer_read bands_ok
+    refusal_finalise finalise spend_pass
     spend_band
     takes_bit spend_at offset_of add sub mul div of_int
 known = refl

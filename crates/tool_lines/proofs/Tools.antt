@@ -1,15 +1,15 @@
 -- A program that answers lines: from turn to turn nothing is lost and nothing added, and at the end all is written. Assumes nothing.
 use Prim.Native.Nat.{ℕ, ◌+◌, ◌<◌, ◌≤◌}
 use mathlib.Core.Path.{◌≡◌, refl, sym, ap, subst, ◌∙◌}
-use mathlib.Core.Bool.{Bool, true, false, cond, not, ◌&&◌, true≢false, false≢true, and-eq-true_iff}
+use mathlib.Core.Bool.{Bool, true, false, cond, not, true≢false, false≢true}
 use mathlib.Core.List.{List, [], ◌∷◌, ◌++◌, map, append-nil, append_assoc}
 use native.Mathlib.Omega.{arith}
-use lib.Dec.{ltb, leb, eqb}
+use lib.Dec.{eqb}
 use lib.ListN.{length, take}
-use borrow.Author.Tests.{ltb-true, ltb-false, leb-true, eq-eqb}
+use borrow.Author.Tests.{eq-eqb}
 use Rattle.tool_io.specs.declared.Input.{Input}
 use Rattle.tool_io.specs.declared.Output.{Output}
-use Rattle.tool_io.specs.Moved.{NewInput, NewOutput, OneWrite}
+use Rattle.tool_io.specs.Moved.{NewInput, NewOutput}
 use Rattle.text.specs.Lines.{lines_of, cut_to}
 use Rattle.text.proofs.Blocks.{whole_stream}
 use Rattle.tool_lines.specs.declared.Reader.{Reader}
@@ -18,52 +18,6 @@ use Rattle.tool_lines.specs.Reading.{lines_after, ready_line, lines_to_come, InB
 use Rattle.tool_lines.specs.Tool.{Tool, text_of_lines, text_of, Ran, Running, Replied, Flushed}
 
 -- ---- the text
-
--- the text text_stays in the buffer
-pub text_stays : (p : Pen) (out log : List ℕ) (most : ℕ) (dry : Bool) {calls : List ℕ} → p.output.logged ≤ length log → calls ≡ p.output.calls ∷ []
-    → ((p.on && not dry) && leb p.pending most) ≡ true → Flushed p out log dry most p log calls
-text_stays p out log most dry {calls} h n e =
-    let a = (and-eq-true_iff (p.on && not dry) (leb p.pending most)).0 e in
-    let b = (and-eq-true_iff p.on (not dry)).0 a.0 in
-    record {
-      room = leb-true p.pending most a.1;
-      inside = h;
-      counted = n;
-      empty = λ f. absurd (true≢false (sym b.0 ∙ f));
-      prompt = λ f. absurd (false≢true (sym (ap not f) ∙ b.1));
-      going = λ f. f;
-      fine = λ f. f;
-      same = λ f. refl;
-      complete = λ f. f;
-      text = λ f. refl;
-    }
-
--- the first of both
-and_left : (a b : Bool) → (a && b) ≡ true → a ≡ true
-and_left a b e = ((and-eq-true_iff a b).0 e).0
-
--- where no write failed, whether to go on is as it was
-and_not_false : (a b : Bool) → b ≡ false → (a && not b) ≡ a
-and_not_false true b e = ap not e
-and_not_false false b e = refl
-
--- the text is handed over
-pub text_handed_over : (p : Pen) (out log : List ℕ) (dry : Bool) (most : ℕ) {o : Output} {l : Bool} (log' calls : List ℕ)
-    → OneWrite p.output log (take p.pending out) o log' calls → l ≡ o.failed
-    → Flushed p out log dry most (record { pending = 0; on = p.on && not l; output = o }) log' calls
-text_handed_over p out log dry most {o} {l} log' calls q e =
-    record {
-      room = omega arith;
-      inside = q.noted.inside;
-      counted = q.counted.lent;
-      empty = λ f. refl;
-      prompt = λ f. refl;
-      going = λ f. and_left p.on (not l) f;
-      fine = q.fine;
-      same = λ f. and_not_false p.on l (e ∙ f);
-      complete = q.noted.before;
-      text = λ f. append-nil (take o.logged log') ∙ q.noted.after f;
-    }
 
 -- ---- a line
 
@@ -222,11 +176,6 @@ module _ {S : Type 0} (T : Tool S) (s₀ : S) where
             (sym (append_assoc (take r₀.input.logged seen) k.new_bytes t) ∙ ap (λ (x : List ℕ). x ++ t) (sym k.logged));
       }
 
-  -- the bounds that the reader's next step asks for
-  pub bounds_of : {s : S} (r : Reader) {p : Pen} {most more : ℕ} (block kept seen : List ℕ) {out sent reads writes : List ℕ}
-      → Running T s₀ s r p most more block kept out seen sent reads writes → InBounds (length kept) r (length block) (length seen)
-  bounds_of r block kept seen R = subst (λ (n : ℕ). InBounds n r (length block) (length seen)) (sym R.line) R.bounds
-
   -- a step of the reader, a reply and a flush
   pub turn-keeps : (s : S) (r₀ r : Reader) (p : Pen) (most more : ℕ) (block kept out seen sent reads writes block' kept' seen' reads' : List ℕ)
       {s' : S} {p₁ p₂ : Pen} (out' sent' writes' : List ℕ)
@@ -286,19 +235,4 @@ module _ {S : Type 0} (T : Tool S) (s₀ : S) where
             ∙ R.accounted a b c d t g ∙ ap (text_of_lines T s₀) (whole-input T.line_size R.some (take r.input.logged seen ++ t));
       }
 
-  -- of a program whose output failed nothing is said
-  pub failed_holds : {i : Input} {o : Output} (seen sent : List ℕ) → o.failed ≡ true → Ran T s₀ i o seen sent
-  failed_holds seen sent e = record { all = λ a b c d t g. absurd (true≢false (sym e ∙ b)) }
-
 -- ---- the turns
-
--- a turn that was begun
-pub has-turn : (on any : Bool) (n : ℕ) → any ≡ ltb 0 n → (on && any) ≡ true → (on ≡ true) × (0 < n)
-has-turn on any n b c = let p = (and-eq-true_iff on any).0 c in (p.0, ltb-true 0 n (sym b ∙ p.1))
-
--- a loop that ended with more to do has no turn left
-pub no_turn : (on any : Bool) (n : ℕ) → on ≡ true → any ≡ ltb 0 n → (on && any) ≡ false → n ≡ 0
-no_turn on any n a b c =
-    let f : any ≡ false = sym (ap (λ (x : Bool). x && any) a) ∙ c in
-    let l : n ≤ 0 = ltb-false 0 n (sym b ∙ f) in
-    omega (arith, l)

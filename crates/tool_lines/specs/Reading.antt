@@ -4,7 +4,7 @@ use Rattle.tool_io.specs.declared.Input.{Input}
 use Rattle.text.specs.Lines.{lines_ended, kept_after, last_of}
 use Rattle.tool_lines.specs.declared.Reader.{Reader}
 
--- the lines of the bytes s after the bytes k of a line, of each at most `lineSize` bytes; the last without a line feed too
+-- the lines of the bytes s after the bytes k of a line, of each at most `line_size` bytes; the last without a line feed too
 unfoldable pub lines_after : ℕ → List ℕ → List ℕ → List (List ℕ)
 lines_after line_size k s = lines_ended line_size k s ++ last_of (kept_after line_size k s)
 
@@ -20,7 +20,7 @@ begun_line p kept = take (cond p.ready 0 p.kept) kept
 unfoldable pub lines_to_come : ℕ → Reader → List ℕ → List ℕ → List ℕ → List (List ℕ)
 lines_to_come line_size p kept block t = cond p.input.ended [] (lines_after line_size (begun_line p kept) (drop p.at (take p.n block) ++ t))
 
--- a reader's numbers lie within its block, a record of so many bytes and the `lineSize` bytes that are kept of a line; and where no read failed
+-- a reader's numbers lie within its block, a record of so many bytes and the `line_size` bytes that are kept of a line; and where no read failed
 -- there is no more to read just where the input has ended
 pub record InBounds (line_size : ℕ) (p : Reader) (block log : ℕ) : Type 0 where
   pub block_some : 0 < block

@@ -165,4 +165,5 @@ module _ (q : AllocNumbers) (offsets caps : List ℤ) (h : Wishes) where
 
 -- so no trip does
 pub never_disagreed : NeverDisagreed
-never_disagreed q offsets caps h bytes ys b e = new-not q offsets caps h bytes ys (start_of (length bytes)) (sym (reader-agrees q offsets caps h bytes ys b) ∙ e)
+never_disagreed q offsets caps h bytes ys b e = new-not q offsets caps h bytes ys (start_of (length bytes))
+    (sym (reader-agrees q offsets caps h bytes ys b) ∙ e)

@@ -5,9 +5,7 @@ use mathlib.Core.Bool.{Bool, false, ◌&&◌, and-false}
 use mathlib.Core.List.{List}
 use lib.IntN.{ℤ}
 use lib.ListN.{length}
-use Rattle.entcode.specs.Said.Said.{done, refused}
 use Rattle.entdec.specs.declared.Reader.{Reader}
-use Rattle.entdec.specs.Answer.{start_of as readerOver}
 use Rattle.entenc.specs.declared.Writer.{Writer}
 use Rattle.entenc.specs.Write.{wr}
 use Rattle.rate.specs.declared.AllocNumbers.{AllocNumbers}
@@ -17,13 +15,13 @@ use Rattle.rate.specs.declared.AllocRead.{AllocRead}
 use Rattle.rate.specs.declared.AllocRead.TheVariants as allocRead
 use Rattle.rate.specs.Question.{Lists, no_lists}
 use Rattle.rate.specs.Answer.{after_read, reading}
-use Rattle.trip_theorem.specs.Calls.{Symbol, tells_r, tells_w}
+use Rattle.trip_theorem.specs.Calls.{tells_r, tells_w}
 use Rattle.trip_theorem.specs.Rows.{kinds, read_all, write_all}
 use Rattle.trip_call.specs.Given.{symbols_of}
 use Rattle.trip_call.specs.declared.rows.Pair.{Pair}
 use Rattle.trip_call.specs.declared.rows.Pairs.{Pairs as PairsAnswer}
 use Rattle.trip_call.specs.declared.rows.Pairs.TheVariants as pairs
-use Rattle.trip_call.specs.ReadBack.{agrees, row_agrees, shares_agree}
+use Rattle.trip_call.specs.ReadBack.{row_agrees, shares_agree}
 use Rattle.trip_call.specs.Runs.{pair_from, pairs_of}
 use Rattle.trip_call.specs.Same.{same_ints, same_numbers, same_tells}
 use Rattle.trip_call.proofs.Joining.{pairs_are, row-differs, row_same}
@@ -66,14 +64,3 @@ module _ (l t : List ℕ) (q : AllocNumbers) (offsets caps : List ℤ) (y : Writ
       (sym (and-false (same_tells (tells_w w) (tells_r d))))
 
 -- ---- a new reader; k is a copy of the bytes
-
-module _ (q : AllocNumbers) (offsets caps : List ℤ) (ys : List Symbol) (w : Writer) (bytes : List ℕ) (y : WrittenAllocation) (m : Lists) (s : List ℕ) where
-  -- with a new reader, the row decides
-  pub reader_at : {b : Bool} (d : Reader) (k : List ℕ) → readerOver s ≡ done d → k ≡ bytes
-      → b ≡ (same_tells (tells_w w) (tells_r d) && row_agrees q offsets caps y m s (write_all ys (wr w k)) (read_all (kinds ys) s d))
-      → b ≡ agrees q offsets caps ys w (write_all ys (wr w bytes)) y m s
-  reader_at d k e p h = rw (e, ← p) h
-
-  -- without one nothing agrees
-  pub reader_no : {n : ℕ} → readerOver s ≡ refused n → false ≡ agrees q offsets caps ys w (write_all ys (wr w bytes)) y m s
-  reader_no e = rw e

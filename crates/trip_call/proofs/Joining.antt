@@ -87,7 +87,8 @@ module _ (l t : List ℕ) (w : Wr) where
   row-refused i n e = refused_of _ i n (e ∙ run_is l t (length l / 5) 0 w)
 
 -- by the code's answer r, which left the bytes k; b is a copy of the bytes
-module _ (l t bytes : List ℕ) (w : Writer) {b : List ℕ} (r : RowWrote) (k : List ℕ) (p : b ≡ bytes) (e : after_row_of r k ≡ row_from l t (length l / 5) 0 (wr w b))
+module _ (l t bytes : List ℕ) (w : Writer) {b : List ℕ} (r : RowWrote) (k : List ℕ) (p : b ≡ bytes)
+    (e : after_row_of r k ≡ row_from l t (length l / 5) 0 (wr w b))
   where
     -- the same, of the code's answer
     pub rows_wrote : (v : Writer) → r ≡ row.Done v → RowWritten (write_all (symbols_of l t) (wr w bytes)) (wr v k)

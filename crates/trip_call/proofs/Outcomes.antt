@@ -1,13 +1,11 @@
 -- Each step of the writer's side, by its call's answer. Assumes nothing.
 use Prim.Native.Nat.{ℕ}
-use mathlib.Core.Path.{◌≡◌, ap, ◌∙◌}
-use mathlib.Core.Bool.{Bool, cond}
+use mathlib.Core.Path.{◌≡◌}
+use mathlib.Core.Bool.{Bool}
 use mathlib.Core.List.{List}
 use lib.IntN.{ℤ}
 use Rattle.entenc.specs.declared.Writer.{Writer}
-use Rattle.entenc.specs.declared.WriteAnswer.{WriteAnswer}
-use Rattle.entenc.specs.declared.WriteAnswer.TheVariants as written
-use Rattle.entenc.specs.Answer.{After, said, after, closing}
+use Rattle.entenc.specs.Answer.{closing}
 use Rattle.entenc.specs.Write.{Wr, wr}
 use Rattle.rate.specs.declared.AllocNumbers.{AllocNumbers}
 use Rattle.rate.specs.declared.Wishes.{Wishes}
@@ -26,19 +24,6 @@ use Rattle.trip_call.specs.Outcome.{allot_outcome, close_outcome, row_outcome}
 
 -- ---- the close
 
-module _ (w : Wr) {r : WriteAnswer} {l : List ℕ} (e : after r l ≡ closing w) (reads : List ℕ → Bool) where
-  -- an accepted close: what comes after it
-  pub close-next : (u : Writer) {o : Outcome} → r ≡ written.Done u
-      → o ≡ cond u.sink.error outcome.NotClosed (cond (reads l) outcome.Agreed outcome.Disagreed)
-      → o ≡ close_outcome reads (closing w).said (closing w).bytes
-  close-next u {o} p k = let z : o ≡ close_outcome reads (said r) l = rw p k in z ∙ ap (λ (x : After). close_outcome reads x.said x.bytes) e
-
-  -- a refused close ends the trip
-  pub close_no : {n : ℕ} → r ≡ written.Refused n → outcome.Refused call.Close n ≡ close_outcome reads (closing w).said (closing w).bytes
-  close_no {n} p =
-      let z : outcome.Refused call.Close n ≡ close_outcome reads (said r) l = rw p in
-      z ∙ ap (λ (x : After). close_outcome reads x.said x.bytes) e
-
 -- ---- the allocation
 
 module _ (q : AllocNumbers) (h : Wishes) (offsets caps : List ℤ) (v : Wr) {r : AllocWrote} (m : Lists) {b : List ℕ}
@@ -47,7 +32,8 @@ module _ (q : AllocNumbers) (h : Wishes) (offsets caps : List ℤ) (v : Wr) {r :
   -- an accepted allocation: what comes after it
   pub allot-done : (y : WrittenAllocation) {o : Outcome} → r ≡ allocWritten.Done y
       → o ≡ close_outcome (reads y m) (closing (wr y.next b)).said (closing (wr y.next b)).bytes
-      → o ≡ allot_outcome reads (writing q h offsets caps v no_lists).said (writing q h offsets caps v no_lists).lent (writing q h offsets caps v no_lists).bytes
+      → o ≡ allot_outcome reads (writing q h offsets caps v no_lists).said (writing q h offsets caps v no_lists).lent
+      (writing q h offsets caps v no_lists).bytes
   allot-done y p k = rw (← e, p) k
 
   -- a refused allocation ends the trip

@@ -6,8 +6,8 @@ use mathlib.Core.List.{List, [], ◌∷◌}
 use native.Mathlib.Numerals.{add-one}
 use native.Mathlib.Omega.{arith}
 use lib.IntN.{ℤ, pos, negsuc}
-use lib.ListN.{drop, drop_of_length-le, get_or, length, set, take}
-use lib.Seq.{drop-cons, take_all, take-suc, take-suc-set}
+use lib.ListN.{drop, drop_of_length-le, get_or, length}
+use lib.Seq.{drop-cons}
 use borrow.Author.Tests.{le-leb}
 use Rattle.rate.specs.declared.ReadAllocation.{ReadAllocation}
 use Rattle.rate.specs.declared.WrittenAllocation.{WrittenAllocation}
@@ -40,7 +40,8 @@ numbers-same y x p q r s = rw (p, q, r, s, int_same y.coded, int_same y.balance,
 
 module _ (x y : List ℤ) (e : length y ≡ length x) (i : ℕ) where
   -- the comparison from place i on is that of place i, then of the others
-  ints_step : i < length x → same_ints (drop i x) (drop i y) ≡ (same_int (get_or x i (pos 0)) (get_or y i (pos 0)) && same_ints (drop (i + 1) x) (drop (i + 1) y))
+  ints_step : i < length x → same_ints (drop i x) (drop i y) ≡
+      (same_int (get_or x i (pos 0)) (get_or y i (pos 0)) && same_ints (drop (i + 1) x) (drop (i + 1) y))
   unfolding alike
   ints_step h =
       let k : i < length y = omega arith in
@@ -61,13 +62,3 @@ module _ (x y : List ℤ) (e : length y ≡ length x) (i : ℕ) where
   ints_end h k =
       let n : length y ≤ i = omega arith in
       rw (drop_of_length-le x h, drop_of_length-le y n) at k
-
--- a byte copied
-module _ (from to : List ℕ) (i : ℕ) (e : length to ≡ length from) (k : take i to ≡ take i from) where
-  -- one byte more is copied
-  pub copy_on : i < length from → take (i + 1) (set to i (get_or from i 0)) ≡ take (i + 1) from
-  copy_on h = rw (add-one, take-suc-set to i (get_or from i 0) (omega arith), take-suc from i 0 h, k)
-
-  -- all are copied
-  pub copy-end : length from ≤ i → to ≡ from
-  copy-end h = sym (take_all i to (omega arith)) ∙ k ∙ take_all i from h

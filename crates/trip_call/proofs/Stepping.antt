@@ -5,9 +5,6 @@ use mathlib.Core.List.{List}
 use lib.IntN.{ℤ}
 use lib.ListN.{drop, take}
 use borrow.Author.Tests.{eq-eqb, ne_eqb}
-use mir.Syntax.{w32}
-use mir.Val.{SFits, of_z, to_z}
-use mir.Facts.{to_z-of_z}
 use Rattle.entcode.specs.Said.{Said, answer}
 use Rattle.entcode.specs.Said.Said.{done, refused}
 use Rattle.entcode.specs.Sym.{Shape}
@@ -19,15 +16,22 @@ use Rattle.entdec.specs.Symbols.{read_sym}
 use Rattle.entenc.specs.declared.Writer.{Writer}
 use Rattle.entenc.specs.Answer.{After, writing}
 use Rattle.entenc.specs.Write.{Wr}
-use Rattle.laplace.specs.declared.LapRead.{LapRead}
-use Rattle.laplace.specs.declared.LapRead.TheVariants as lapRead
-use Rattle.laplace.specs.declared.LapWrote.{LapWrote}
-use Rattle.laplace.specs.declared.LapWrote.TheVariants as lapWrote
 use Rattle.laplace.specs.Answer as laplaceCalls
-use Rattle.laplace.specs.Model.{code_of, value_at}
+use Rattle.laplace.specs.Model.{value_at}
 use Rattle.laplace.specs.declared.LapDone.{LapDone}
 use Rattle.laplace.specs.declared.LapSym.{LapSym}
-use Rattle.trip_theorem.specs.Calls.{WriteStep, ReadStep, write_step_as, write_step_by, lap_write_step, read_call, symbol, read_step_as, read_step_by, lap_read_step}
+use Rattle.trip_theorem.specs.Calls.{
+  WriteStep,
+  ReadStep,
+  write_step_as,
+  write_step_by,
+  lap_write_step,
+  read_call,
+  symbol,
+  read_step_as,
+  read_step_by,
+  lap_read_step,
+}
 use Rattle.trip_theorem.specs.Calls.{write_call}
 use Rattle.trip_theorem.specs.Calls.Kind.{bit, table, uniform, raw, laplace}
 use Rattle.trip_theorem.specs.Calls.WriteStep.{write_step, write_refused}
@@ -35,10 +39,18 @@ use Rattle.trip_theorem.specs.Calls.ReadStep.{read_step, read_refused}
 use Rattle.trip_call.specs.declared.given.Given.{Given}
 use Rattle.trip_call.specs.declared.writes.SymbolWrote.{SymbolWrote}
 use Rattle.trip_call.specs.declared.reads.SymbolRead.{SymbolRead}
-use Rattle.trip_call.specs.declared.writes.SymbolWrote.TheVariants as wrote
-use Rattle.trip_call.specs.declared.reads.SymbolRead.TheVariants as read
 use Rattle.trip_call.specs.Given.{later_of, symbol_of}
-use Rattle.trip_call.specs.Steps.{count_written, count_read, lap_symbol_wrote, lap_symbol_read, symbol_wrote, symbol_read, write_step_of, write_symbol, read_symbol}
+use Rattle.trip_call.specs.Steps.{
+  count_written,
+  count_read,
+  lap_symbol_wrote,
+  lap_symbol_read,
+  symbol_wrote,
+  symbol_read,
+  write_step_of,
+  write_symbol,
+  read_symbol,
+}
 use Rattle.trip_call.specs.Steps.{read_step_of}
 
 -- ---- the kinds by their numbers
@@ -202,17 +214,3 @@ module _ (g : Given) (s : List ℕ) (d : Reader) {x : SymbolRead} where
     read_table {u = u} q h i e p = rw (of_table g t q h, ← i) (read_is (tableShape u g.first) s d e p)
 
 -- ---- the Laplace answers
-
--- z as it was handed on
-pub code_told : (z : ℤ) {n : ℕ} → SFits w32 z → n ≡ code_of (to_z w32 (of_z w32 z)) → n ≡ code_of z
-code_told z f e = e ∙ ap (λ (x : ℤ). code_of x) (to_z-of_z f)
-
--- the answer of an accepted write of a Laplace value
-pub lap-next : (y : LapDone) {n : ℕ} {r : LapWrote} → r ≡ lapWrote.Done y → n ≡ code_of y.value
-    → wrote.Done (record { count = n; next = y.next }) ≡ lap_symbol_wrote (laplaceCalls.said_wrote r)
-lap-next y p q = rw (p, q)
-
--- the answer of an accepted read of one
-pub lap-read-done : (y : LapSym) {n : ℕ} {r : LapRead} → r ≡ lapRead.Done y → n ≡ code_of y.value
-    → read.Done (record { count = n; next = y.next }) ≡ lap_symbol_read (laplaceCalls.said_read r)
-lap-read-done y p q = rw (p, q)

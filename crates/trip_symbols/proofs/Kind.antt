@@ -9,7 +9,22 @@ use lib.Dec.{ltb, leb, eqb}
 use lib.Pow.{pow_mono}
 use borrow.Author.Tests.{lt-ltb, le-ltb, ltb-true, leb-true, eqb-true, eqb-false}
 use Rattle.laws.proofs.Tests.{split_on}
-use Rattle.entcode.specs.Sym.{Model, Shape, bit_model, find_sym, falls, table_model, flat_model, low_bits, upper, pieces_of, adjust, shape_ok, list_ok, value_ok}
+use Rattle.entcode.specs.Sym.{
+  Model,
+  Shape,
+  bit_model,
+  find_sym,
+  falls,
+  table_model,
+  flat_model,
+  low_bits,
+  upper,
+  pieces_of,
+  adjust,
+  shape_ok,
+  list_ok,
+  value_ok,
+}
 use Rattle.entcode.specs.Sym.Shape.{bit, table, uint, raw, modelled}
 use Rattle.entcode.proofs.Cuts.{CutOk}
 use Rattle.entcode.proofs.Falls.{entry}

@@ -43,7 +43,8 @@ chosen val rng p q =
     let a = rounded-le (31 - (count_leading_zeros 32 rng + 1)) val in
     let o = pow_pos (31 - (count_leading_zeros 32 rng + 1)) in
     let z : 31 - count_leading_zeros 32 rng ≡ suc (31 - (count_leading_zeros 32 rng + 1)) = omega (arith, t.zeros) in
-    let d : 2 ^ (31 - count_leading_zeros 32 rng) ≡ 2 ^ (31 - (count_leading_zeros 32 rng + 1)) * 2 = ap (λ (n : ℕ). 2 ^ n) z ∙ pow-suc 2 (31 - (count_leading_zeros 32 rng + 1)) in
+    let d : 2 ^ (31 - count_leading_zeros 32 rng) ≡ 2 ^ (31 - (count_leading_zeros 32 rng + 1)) * 2 = ap (λ (n : ℕ). 2 ^ n) z
+    ∙ pow-suc 2 (31 - (count_leading_zeros 32 rng + 1)) in
     simp e
     (record {
       bits-le = omega (arith, t.zeros);

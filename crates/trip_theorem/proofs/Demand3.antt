@@ -85,7 +85,8 @@ whole : (bytes : List ℕ) (ys : List Symbol) (more : List Sym) (first : Writer)
     → WholeOf ys more (length bytes) (wr first bytes) v zs ts s
 whole bytes ys more first v u zs ts s b n e r f p c ok =
     let w = wr (fresh_writer (length bytes)) bytes in
-    let g : write_all ys (wr (fresh_writer (length bytes)) bytes) ≡ write_row v zs ts = subst (λ (x : Writer). write_all ys (wr x bytes) ≡ write_row v zs ts) n e in
+    let g : write_all ys (wr (fresh_writer (length bytes)) bytes)
+    ≡ write_row v zs ts = subst (λ (x : Writer). write_all ys (wr x bytes) ≡ write_row v zs ts) n e in
     let d = all_done ys w v zs ts g in
     rw (n, c) (whole-at bytes ys more v u zs ts b g r f (write_append (syms ys) more w ∙ ap (write_syms more) d.same ∙ p) ok)
 

@@ -31,7 +31,19 @@ use Rattle.laplace.proofs.Lawful.{lap-cut, lap_finds}
 use Rattle.trip_symbols.specs.Lawful.{LawfulShape}
 use Rattle.trip_symbols.specs.Along.{Meets}
 use Rattle.trip_symbols.proofs.Kind.{SymOk, sym-ok}
-use Rattle.trip_theorem.specs.Calls.{Kind, Value, Symbol, value_count, write_step_by, lap_write_step, read_step_by, lap_read_step, write_call, read_call, tells_w}
+use Rattle.trip_theorem.specs.Calls.{
+  Kind,
+  Value,
+  Symbol,
+  value_count,
+  write_step_by,
+  lap_write_step,
+  read_step_by,
+  lap_read_step,
+  write_call,
+  read_call,
+  tells_w,
+}
 use Rattle.trip_theorem.specs.Calls.{tells_r}
 use Rattle.trip_theorem.specs.Calls.Kind.{bit, table, uniform, raw, laplace}
 use Rattle.trip_theorem.specs.Calls.WriteStep.{write_step}

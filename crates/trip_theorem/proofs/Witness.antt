@@ -29,7 +29,19 @@ use Rattle.laplace.specs.Model.{value_at}
 use Rattle.laplace.specs.Pairs.{among, pair_known}
 use Rattle.laplace.specs.Rows.{decay_rows, decays_in, decays_for}
 use Rattle.laplace.specs.Signed.{span_z}
-use Rattle.rate_spec.specs.Alloc.{skipped, degrees, spread, split_band, carried, band_of, first_round, dual_asked, left_of as leftOfAlloc, finish, ask_intensity}
+use Rattle.rate_spec.specs.Alloc.{
+  skipped,
+  degrees,
+  spread,
+  split_band,
+  carried,
+  band_of,
+  first_round,
+  dual_asked,
+  left_of as leftOfAlloc,
+  finish,
+  ask_intensity,
+}
 use Rattle.rate_spec.specs.Alloc.{ask_dual, alloc_from, alloc}
 use Rattle.rate_spec.specs.Answers.{depth, stops, encoder_ask as deciding}
 use Rattle.rate_spec.specs.Reserves.{skip_reserve, stereo_fits, intensity_reserve, dual_reserve, budget}
@@ -154,15 +166,23 @@ record Computed : Type 0 where
 
 -- computed through every definition
 computed : Computed
-unfolding every fill over_places sum_of edges edge width energy_model zero_at decay_at pair_index fractions fraction log_widths log_width vectors vector_entry counts_ok
-    renorm_steps cut_start cut_width refusal find_sym falls pieces_of adjust shape_ok value_ok length_ok list_ok eighths answer lent_after rounded tail_bits tail_end end_w
-    close_out close_w writer_ok write_refusal refusal_w refusal_close write_pieces shift_w shifts_w cut_w bits_w zeroed finished put_front put_end emit flushed left_of walk
-    span_of value_at among pair_known decay_rows decays_in decays_for span_z skipped degrees spread split_band carried band_of first_round dual_asked leftOfAlloc finish
-    ask_intensity ask_dual alloc_from alloc depth stops deciding skip_reserve stereo_fits intensity_reserve dual_reserve budget last_boost skip_start width_up_to
-    reserve_next top_bits asks paid keep dropped flag_of skip with_offset wanted extra spill fine_of prio_of split_of halve reached floored trial_takes over vector
-    sixtyfourths kept_bits bits_of threshold slope trim_up trim_down trimmed vector_bits lower_bits upper_bits interpolated answer_written alloc_counts no_entries
+unfolding every fill over_places sum_of edges edge width energy_model zero_at decay_at pair_index fractions fraction log_widths log_width vectors
+    vector_entry counts_ok
+    renorm_steps cut_start cut_width refusal find_sym falls pieces_of adjust shape_ok value_ok length_ok list_ok eighths answer lent_after rounded
+    tail_bits tail_end end_w
+    close_out close_w writer_ok write_refusal refusal_w refusal_close write_pieces shift_w shifts_w cut_w bits_w zeroed finished put_front put_end
+    emit flushed left_of walk
+    span_of value_at among pair_known decay_rows decays_in decays_for span_z skipped degrees spread split_band carried band_of first_round dual_asked
+    leftOfAlloc finish
+    ask_intensity ask_dual alloc_from alloc depth stops deciding skip_reserve stereo_fits intensity_reserve dual_reserve budget last_boost skip_start
+    width_up_to
+    reserve_next top_bits asks paid keep dropped flag_of skip with_offset wanted extra spill fine_of prio_of split_of halve reached floored
+    trial_takes over vector
+    sixtyfourths kept_bits bits_of threshold slope trim_up trim_down trimmed vector_bits lower_bits upper_bits interpolated answer_written
+    alloc_counts no_entries
     numbers_ok
-    stereo_ok refusal_write write_call write_all example_bytes example_lists example_symbols example_numbers example_boosts example_caps example_wishes count_leading_zeros
+    stereo_ok refusal_write write_call write_all example_bytes example_lists example_symbols example_numbers example_boosts example_caps
+    example_wishes count_leading_zeros
     example_first example_row example_written example_closed example_out
 computed = record { first = refl; row = refl; allocation = refl; close = refl; fits = refl; intensity = refl; dual = refl }
 

@@ -3,7 +3,7 @@ use Prim.Native.Nat.{ℕ, zero, suc, ◌+◌, ◌-◌, ◌*◌, ◌/◌, ◌%◌
 use mathlib.Core.Path.{◌≡◌, refl, sym, ap, ◌∙◌}
 use mathlib.Core.Bool.{Bool, true, false, cond}
 use mathlib.Core.List.{List}
-use native.Mathlib.Nat.{mul-le-mul_right, mul-div-le, mul_assoc, zero-mul, one-mul, pow-succ', div-eq_of_lt, add-mul-div_right, add-mul-mod_self_right}
+use native.Mathlib.Nat.{mul_assoc, zero-mul, one-mul, pow-succ', div-eq_of_lt, add-mul-div_right, add-mul-mod_self_right}
 use native.Mathlib.Numerals.{add-one}
 use native.Mathlib.Omega.{arith}
 use lib.Dec.{lit<}
@@ -30,12 +30,6 @@ module _ (m : ℕ) (v : List ℤ) where
   bits-lt (suc i) =
       let b : cond (silent (part m i v)) 0 (2 ^ i) ≤ 2 ^ i = cond-le (silent (part m i v)) (λ e. omega arith) (λ e. omega arith) in
       omega (arith, bits-lt i, pow-succ' 2 i)
-
--- the places of part i, of b in l
-pub part_in : (l b i : ℕ) → i < b → i * (l / b) + l / b ≤ l
-part_in l b i h =
-    let a : (i + 1) * (l / b) ≤ b * (l / b) = mul-le-mul_right {m = i + 1} {n = b} (l / b) (omega arith) in
-    omega (arith, mul-div-le l b)
 
 -- ---- bit i is set exactly when part i holds a pulse
 

@@ -85,7 +85,8 @@ unfolding of_int
 whole-value n h = round_whole binary32 false n h
 
 -- the code's division gives the definition's value
-pub quotient : (m j : ℕ) → 0 < m → m ≤ 16777216 → j ≤ 23 → div binary32 (of_int binary32 (pos m)) (of_int binary32 (pos (2 ^ j))) ≡ round binary32 false m (2 ^ j)
+pub quotient : (m j : ℕ) → 0 < m → m ≤ 16777216 → j ≤ 23 → div binary32 (of_int binary32 (pos m)) (of_int binary32 (pos (2 ^ j)))
+    ≡ round binary32 false m (2 ^ j)
 quotient m j p h l =
     let x = whole-value m h in
     let y = whole-value (2 ^ j) (pow_most j l) in

@@ -23,7 +23,7 @@ use Rattle.vq.specs.Answer.{length_ok, numbers_ok, special_shape, after, answer_
 
 -- ---- the domain
 
--- `numbersOk` as facts
+-- `numbers_ok` as facts
 pub record Domain (n k spread b : ℤ) : Type 0 where
   pub places : CountIn 2 176 n
   pub pulses : CountIn 1 128 k

@@ -5,7 +5,6 @@ use mathlib.Core.List.{List, [], ◌∷◌, ◌++◌}
 use native.Mathlib.Omega.{arith}
 use lib.IntN.{ℤ, pos, nat_abs}
 use lib.ListN.{length, get_or, take}
-use lib.Ieee.{Float}
 use Rattle.entdec.specs.declared.Reader.{Reader}
 use Rattle.entdec.proofs.Values.{uint-value}
 use Rattle.cwrs_counts.specs.Count.{Vn}
@@ -16,9 +15,6 @@ use Rattle.cwrs_counts.proofs.Recurrence.{V_four}
 use Rattle.cwrs.proofs.Words.{pulses_cons, energy-pos, energy-le}
 use Rattle.cwrs.proofs.Back.{word_first}
 use Rattle.cwrs.proofs.Inverse.{word_right}
-use Rattle.vq.specs.Shape.{factor_of, scaled, shape_of}
-use Rattle.vq.specs.Mask.{collapse}
-use Rattle.vq.specs.Answer.{read_shape_of}
 
 -- no place has more than all
 pub place-le : (v : List ℤ) (i : ℕ) → nat_abs (get_or v i (pos 0)) ≤ pulses v
@@ -53,8 +49,3 @@ module _ (n k : ℕ) (s : List ℕ) (d : Reader) (rest : List ℤ) {y : List ℤ
   pub can_shape : {l : ℕ} → Vector n (read_word n k s d) → l ≡ n
       → (l ≡ length (take n y)) × ((i : ℕ) → nat_abs (get_or (take n y) i (pos 0)) ≤ 16777216) × (0 < f.energy)
   can_shape v h = rw (first-is, found) (h ∙ sym v.long, λ i. omega (arith, place-le (read_word n k s d) i, v.few), v.some)
-
-  -- mask m and shape x
-  pub shaped : (b : ℕ) (gain : Float) {m : ℕ} {x : List Float} → m ≡ collapse b (take n y) → x ≡ scaled (factor_of f.energy gain) (take n y)
-      → (record { mask = m; next = f.next } ≡ read_shape_of n k b s d) × (x ≡ shape_of gain (read_word n k s d))
-  shaped b gain g h = let e = first-is in (rw (g, e, found), rw (e, found) at h)

@@ -30,7 +30,10 @@ decode-f-requires c =
     let a = c.args in
     let o = passed (goal.at.decode-f-requires c).Then-no-eq0 in
     let d = domain a.n a.k o.known in
-    let l = eqb-true (length a.y.now) 176 o.sizes in record { ready = sound_ready 1 a.d o.state (lit≤ tt); le_n = (d.n_low, d.n_high, omega arith, d.k_low, d.k_high, read_fits a.n a.k o.none) }
+    let l = eqb-true
+    (length a.y.now)
+    176 o.sizes
+    in record { ready = sound_ready 1 a.d o.state (lit≤ tt); le_n = (d.n_low, d.n_high, omega arith, d.k_low, d.k_high, read_fits a.n a.k o.none) }
 
 pub returns-then-no-eq0 : goal.returns-then-no-eq0
 returns-then-no-eq0 c =

@@ -29,7 +29,10 @@ encode-next-requires c =
     let o = passed (goal.at.encode-next-requires c).Then-no-eq0 in
     let d = domain a.n a.k o.known in
     let l = eqb-true (length a.y.now) 176 o.sizes in
-    let f = write-fits a.y.now a.n a.k o.none in record { ready = ready_of 1 (wr a.w a.buf.now) (lit≤ tt) o.state o.whole; le_n = (d.n_low, d.n_high, omega arith, d.k_low, d.k_high, f.0, f.1) }
+    let f = write-fits
+    a.y.now a.n
+    a.k o.none
+    in record { ready = ready_of 1 (wr a.w a.buf.now) (lit≤ tt) o.state o.whole; le_n = (d.n_low, d.n_high, omega arith, d.k_low, d.k_high, f.0, f.1) }
 
 pub returns-then-no-eq0 : goal.returns-then-no-eq0
 returns-then-no-eq0 c =

@@ -35,4 +35,5 @@ pub returns-else-no-eq0 : goal.returns-else-no-eq0
 returns-else-no-eq0 c =
     let a = c.args in
     let w = wr a.w a.buf.now in
-    said_no _ _ (written_as a.fs a.decay a.value) w (write_lap a.fs a.decay a.value w) (gated (goal.at.returns-else-no-eq0 c).After-refusal-no) c.if-no-eq0.false
+    said_no _ _ (written_as a.fs a.decay a.value) w (write_lap a.fs a.decay a.value w) (gated (goal.at.returns-else-no-eq0 c).After-refusal-no)
+    c.if-no-eq0.false

@@ -10,7 +10,14 @@ use Rattle.entdec.proofs.Chain.{sound_ready}
 use Rattle.quant_bands.specs.Question.{energies_sized, energies_ok, coarse_ok, refusal_coarse}
 use Rattle.quant_bands.proofs.Accepts.{coarse_in, coarse_got, coarse-refused}
 use Rattle.quant_bands.proofs.unquant_coarse_energy.Goals as goal
-use Rattle.quant_bands.proofs.unquant_coarse_energy.Goals.{After-clipped-channels, After-place_of-from, After-place_of-size, After-place_of-to, After-refusal_coarse-no, Then-no-eq0}
+use Rattle.quant_bands.proofs.unquant_coarse_energy.Goals.{
+  After-clipped-channels,
+  After-place_of-from,
+  After-place_of-size,
+  After-place_of-to,
+  After-refusal_coarse-no,
+  Then-no-eq0,
+}
 
 -- the gate's number, in the contract's terms
 gated : (c : After-refusal_coarse-no) → let a = c.args in
@@ -51,7 +58,12 @@ coarse-next-requires c =
     let o = passed (goal.at.coarse-next-requires c).Then-no-eq0 in
     let q = coarse_in a.c a.lm a.start a.end a.intra o.known in record {
       bands_in = (
-        rw (channels (goal.at.coarse-next-requires c).After-clipped-channels, start_is (goal.at.coarse-next-requires c).After-place_of-from, end_is (goal.at.coarse-next-requires c).After-place_of-to) q.0,
+        rw (
+          channels (goal.at.coarse-next-requires c).After-clipped-channels,
+          start_is (goal.at.coarse-next-requires c).After-place_of-from,
+          end_is
+              (goal.at.coarse-next-requires c).After-place_of-to,
+        ) q.0,
         rw (size_is (goal.at.coarse-next-requires c).After-place_of-size) q.1,
         eqb-true (length a.energies.now) 42 o.sizes,
       );

@@ -10,7 +10,14 @@ use Rattle.entdec.proofs.Chain.{sound_ready}
 use Rattle.quant_bands.specs.Question.{energies_sized, energies_ok, bands_ok, fines_ok, refusal_finalise}
 use Rattle.quant_bands.proofs.Accepts.{bands_in, sized, finalise_got, finalise-refused}
 use Rattle.quant_bands.proofs.unquant_energy_finalise.Goals as goal
-use Rattle.quant_bands.proofs.unquant_energy_finalise.Goals.{After-clipped-bits, After-clipped-channels, After-place_of-from, After-place_of-to, After-refusal_finalise-no, Then-no-eq0}
+use Rattle.quant_bands.proofs.unquant_energy_finalise.Goals.{
+  After-clipped-bits,
+  After-clipped-channels,
+  After-place_of-from,
+  After-place_of-to,
+  After-refusal_finalise-no,
+  Then-no-eq0,
+}
 
 -- the gate's number, in the contract's terms
 gated : (c : After-refusal_finalise-no) → let a = c.args in
@@ -52,7 +59,11 @@ finalise-next-requires c =
     let o = passed (goal.at.finalise-next-requires c).Then-no-eq0 in
     let l = sized _ _ _ o.sizes in record {
       bands_in = (
-        rw (channels (goal.at.finalise-next-requires c).After-clipped-channels, start_is (goal.at.finalise-next-requires c).After-place_of-from, end_is (goal.at.finalise-next-requires c).After-place_of-to) (bands_in a.c a.start a.end o.known),
+        rw (
+          channels (goal.at.finalise-next-requires c).After-clipped-channels,
+          start_is (goal.at.finalise-next-requires c).After-place_of-from,
+          end_is (goal.at.finalise-next-requires c).After-place_of-to,
+        ) (bands_in a.c a.start a.end o.known),
         l.0,
         l.1,
         l.2,
@@ -62,13 +73,21 @@ finalise-next-requires c =
 
 pub returns-then-no-eq0 : goal.returns-then-no-eq0
 returns-then-no-eq0 c =
-    let g = rw (channels (goal.at.returns-then-no-eq0 c).After-clipped-channels, start_is (goal.at.returns-then-no-eq0 c).After-place_of-from, end_is (goal.at.returns-then-no-eq0 c).After-place_of-to, left_is (goal.at.returns-then-no-eq0 c).After-clipped-bits) at c.finalise-next.ensures in
+    let g = rw (
+      channels (goal.at.returns-then-no-eq0 c).After-clipped-channels,
+      start_is (goal.at.returns-then-no-eq0 c).After-place_of-from,
+      end_is
+          (goal.at.returns-then-no-eq0 c).After-place_of-to,
+      left_is (goal.at.returns-then-no-eq0 c).After-clipped-bits,
+    ) at c.finalise-next.ensures in
     let a = c.args in
-    finalise_got a.c a.start a.end a.fine.now a.priorities.now a.left a.s.now a.d a.energies.now (gated (goal.at.returns-then-no-eq0 c).After-refusal_finalise-no)
+    finalise_got a.c a.start a.end a.fine.now a.priorities.now a.left a.s.now a.d a.energies.now
+    (gated (goal.at.returns-then-no-eq0 c).After-refusal_finalise-no)
     c.if-no-eq0.true g
 
 pub returns-else-no-eq0 : goal.returns-else-no-eq0
 returns-else-no-eq0 c =
     let a = c.args in
-    finalise-refused a.c a.start a.end a.fine.now a.priorities.now a.left a.s.now a.d a.energies.now (gated (goal.at.returns-else-no-eq0 c).After-refusal_finalise-no)
+    finalise-refused a.c a.start a.end a.fine.now a.priorities.now a.left a.s.now a.d a.energies.now
+    (gated (goal.at.returns-else-no-eq0 c).After-refusal_finalise-no)
     c.if-no-eq0.false

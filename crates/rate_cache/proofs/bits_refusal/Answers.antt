@@ -18,7 +18,8 @@ tests c =
 
 pub no_row-requires : goal.no_row-requires
 no_row-requires c =
-    let t = ((and-eq-true_iff (band_ok c.args.band c.args.lm) (bits_ok c.args.bits)).0 (rw (tests (goal.at.no_row-requires c).After-bits_ok) at c.if-band_ok-bits_ok.true)).0 in
+    let t = ((and-eq-true_iff (band_ok c.args.band c.args.lm) (bits_ok c.args.bits)).0
+    (rw (tests (goal.at.no_row-requires c).After-bits_ok) at c.if-band_ok-bits_ok.true)).0 in
     let p = in_index c.args.band c.args.lm t in
     let l = rw (to_z-of_z c.ranges.lm) at c.level.ensures in
     let b = rw (to_z-of_z c.ranges.band) at c.clipped.ensures.0 in

@@ -33,8 +33,10 @@ returns-then-mark-eq0 c = let a = c.args in rw (eq-eqb _ _ (none-mark a.lm a.ban
 
 pub returns-then-in_range : goal.returns-then-in_range
 unfolding no_entry
-returns-then-in_range c = rw (ne_eqb _ _ (some (goal.at.returns-then-in_range c).Else-mark-eq0), ← within (goal.at.returns-then-in_range c).After-in_range, c.if-in_range.true)
+returns-then-in_range
+    c = rw (ne_eqb _ _ (some (goal.at.returns-then-in_range c).Else-mark-eq0), ← within (goal.at.returns-then-in_range c).After-in_range, c.if-in_range.true)
 
 pub returns-else-in_range : goal.returns-else-in_range
 unfolding no_entry
-returns-else-in_range c = rw (ne_eqb _ _ (some (goal.at.returns-else-in_range c).Else-mark-eq0), ← within (goal.at.returns-else-in_range c).After-in_range, c.if-in_range.false)
+returns-else-in_range
+    c = rw (ne_eqb _ _ (some (goal.at.returns-else-in_range c).Else-mark-eq0), ← within (goal.at.returns-else-in_range c).After-in_range, c.if-in_range.false)

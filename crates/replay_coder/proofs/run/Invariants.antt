@@ -5,7 +5,8 @@ use Rattle.replay_coder.proofs.run.Given as goal
 
 abbrev pub invariant-loop-lines : goal.invariant-loop-lines
 invariant-loop-lines l =
-    (length l.block ≡ length l.initial.block) × (length l.line ≡ length l.initial.line) × (length l.bytes ≡ length l.initial.bytes) × (length l.table ≡ length l.initial.table) ×
+    (length l.block ≡ length l.initial.block) × (length l.line ≡ length l.initial.line) × (length l.bytes ≡ length l.initial.bytes)
+    × (length l.table ≡ length l.initial.table) ×
     (length l.places ≡ length l.initial.places)
 
 abbrev pub decreases-loop-lines : goal.decreases-loop-lines

@@ -48,7 +48,12 @@ unquant-r-requires c =
     let n = q.places in
     let k = q.pulses in
     let b = q.parts in
-    rw (places_is (goal.at.unquant-r-requires c).After-clipped-places, pulses-is (goal.at.unquant-r-requires c).After-clipped-pulses, parts_is (goal.at.unquant-r-requires c).After-clipped-parts) (record {
+    rw (
+      places_is (goal.at.unquant-r-requires c).After-clipped-places,
+      pulses-is (goal.at.unquant-r-requires c).After-clipped-pulses,
+      parts_is
+          (goal.at.unquant-r-requires c).After-clipped-parts,
+    ) (record {
       ready = sound_ready 1 a.d o.state (lit≤ tt);
       le_n = (
         n.low,
@@ -64,7 +69,12 @@ unquant-r-requires c =
 
 pub returns-then-no-eq0 : goal.returns-then-no-eq0
 returns-then-no-eq0 c =
-    let e = rw (places_is (goal.at.returns-then-no-eq0 c).After-clipped-places, pulses-is (goal.at.returns-then-no-eq0 c).After-clipped-pulses, parts_is (goal.at.returns-then-no-eq0 c).After-clipped-parts) at c.unquant-r.ensures in
+    let e = rw (
+      places_is (goal.at.returns-then-no-eq0 c).After-clipped-places,
+      pulses-is (goal.at.returns-then-no-eq0 c).After-clipped-pulses,
+      parts_is
+          (goal.at.returns-then-no-eq0 c).After-clipped-parts,
+    ) at c.unquant-r.ensures in
     rw (e.0, e.1) (answer_got _ _ _ _ (sym (gated (goal.at.returns-then-no-eq0 c).After-refusal_shape-no) ∙ c.if-no-eq0.true))
 
 pub returns-else-no-eq0 : goal.returns-else-no-eq0

@@ -21,7 +21,8 @@ pub returns-then-pvq_v-eq0 : goal.returns-then-pvq_v-eq0
 returns-then-pvq_v-eq0 c =
     let a = c.args in
     let d = known (goal.at.returns-then-pvq_v-eq0 c).Then-y-in_domain in
-    rw (inside (goal.at.returns-then-pvq_v-eq0 c).Then-y-in_domain) (write_seven a.y.now a.n a.k (count-zero a.n a.k c.pvq_v.ensures (omega arith) c.if-pvq_v-eq0.true))
+    rw (inside (goal.at.returns-then-pvq_v-eq0 c).Then-y-in_domain)
+    (write_seven a.y.now a.n a.k (count-zero a.n a.k c.pvq_v.ensures (omega arith) c.if-pvq_v-eq0.true))
 
 pub returns-then-total-k : goal.returns-then-total-k
 returns-then-total-k c =

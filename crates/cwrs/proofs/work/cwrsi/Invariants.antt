@@ -9,7 +9,8 @@ use Rattle.cwrs.proofs.work.cwrsi.Given as goal
 
 abbrev pub invariant-loop-j : goal.invariant-loop-j
 invariant-loop-j l =
-    (l.j ≤ l.n) × (l.left ≤ l.k) × (length l.y ≡ length l.initial.y) × (l.count ≡ Vn (l.n - l.j) l.left) × (take l.j l.y ++ word (l.n - l.j) l.left l.at ≡ word l.n l.k l.i)
+    (l.j ≤ l.n) × (l.left ≤ l.k) × (length l.y ≡ length l.initial.y) × (l.count ≡ Vn (l.n - l.j) l.left)
+    × (take l.j l.y ++ word (l.n - l.j) l.left l.at ≡ word l.n l.k l.i)
     × (drop l.n l.y ≡ drop l.n l.initial.y)
 
 abbrev pub decreases-loop-j : goal.decreases-loop-j

@@ -59,13 +59,17 @@ pub overflow_add-k-then-v-lt0 : goal.overflow_add-k-then-v-lt0
 overflow_add-k-then-v-lt0 c = let t = second (goal.at.overflow_add-k-then-v-lt0 c).After-unsigned_abs in omega arith
 
 pub pvq_u-i-requires-then-v-lt0 : goal.pvq_u-i-requires-then-v-lt0
-pvq_u-i-requires-then-v-lt0 c = let t = second (goal.at.pvq_u-i-requires-then-v-lt0 c).After-unsigned_abs in omega (arith, t.neg (below (goal.at.pvq_u-i-requires-then-v-lt0 c).After-unsigned_abs c.if-v-lt0.true))
+pvq_u-i-requires-then-v-lt0 c = let t = second (goal.at.pvq_u-i-requires-then-v-lt0 c).After-unsigned_abs in
+    omega (arith, t.neg (below (goal.at.pvq_u-i-requires-then-v-lt0 c).After-unsigned_abs c.if-v-lt0.true))
 
 pub overflow_add-i-then-v-lt0 : goal.overflow_add-i-then-v-lt0
-overflow_add-i-then-v-lt0 c = let t = second (goal.at.overflow_add-i-then-v-lt0 c).After-unsigned_abs in omega (arith, t.neg (below (goal.at.overflow_add-i-then-v-lt0 c).After-unsigned_abs c.if-v-lt0.true))
+overflow_add-i-then-v-lt0 c = let t = second (goal.at.overflow_add-i-then-v-lt0 c).After-unsigned_abs in
+    omega (arith, t.neg (below (goal.at.overflow_add-i-then-v-lt0 c).After-unsigned_abs c.if-v-lt0.true))
 
 pub loop-j-preserved-then-v-lt0 : goal.loop-j-preserved-then-v-lt0
-loop-j-preserved-then-v-lt0 c = let t = second (goal.at.loop-j-preserved-then-v-lt0 c).After-unsigned_abs in omega (arith, t.neg (below (goal.at.loop-j-preserved-then-v-lt0 c).After-unsigned_abs c.if-v-lt0.true))
+loop-j-preserved-then-v-lt0 c = let t = second (goal.at.loop-j-preserved-then-v-lt0 c).After-unsigned_abs in
+    omega (arith, t.neg (below (goal.at.loop-j-preserved-then-v-lt0 c).After-unsigned_abs c.if-v-lt0.true))
 
 pub loop-j-preserved : goal.loop-j-preserved
-loop-j-preserved c = let t = second (goal.at.loop-j-preserved c).After-unsigned_abs in omega (arith, t.plain (above (goal.at.loop-j-preserved c).After-unsigned_abs c.if-v-lt0.false))
+loop-j-preserved c = let t = second (goal.at.loop-j-preserved c).After-unsigned_abs in
+    omega (arith, t.plain (above (goal.at.loop-j-preserved c).After-unsigned_abs c.if-v-lt0.false))

@@ -20,7 +20,8 @@ pub bit-requires : goal.bit-requires
 unfolding shape_ok
 bit-requires c =
     let a = c.args in
-    let o = opened_for (bit a.logp) a.s.now a.self (sym (gated (goal.at.bit-requires c).After-refusal-n) ∙ c.if-n-eq0.true) in record { ready = sound_ready 1 a.self o.state (lit≤ tt); le_logp = between 1 a.logp 15 o.known }
+    let o = opened_for (bit a.logp) a.s.now a.self (sym (gated (goal.at.bit-requires c).After-refusal-n) ∙ c.if-n-eq0.true) in
+    record { ready = sound_ready 1 a.self o.state (lit≤ tt); le_logp = between 1 a.logp 15 o.known }
 
 pub returns-then-n-eq0 : goal.returns-then-n-eq0
 returns-then-n-eq0 c =

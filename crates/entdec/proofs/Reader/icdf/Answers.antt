@@ -22,7 +22,8 @@ pub symbol-requires : goal.symbol-requires
 unfolding length_ok shape_ok list_ok
 symbol-requires c =
     let a = c.args in
-    let o = opened_for (table a.t.now a.ftb) a.s.now a.self (sym (gated (goal.at.symbol-requires c).After-refusal_table-n) ∙ c.if-n-eq0.true) in record { ready = sound_ready 1 a.self o.state (lit≤ tt); le_ftb = between 1 a.ftb 8 o.known; t_nonzero = (ltb-true 0 _ o.sizes, o.entries) }
+    let o = opened_for (table a.t.now a.ftb) a.s.now a.self (sym (gated (goal.at.symbol-requires c).After-refusal_table-n) ∙ c.if-n-eq0.true) in
+    record { ready = sound_ready 1 a.self o.state (lit≤ tt); le_ftb = between 1 a.ftb 8 o.known; t_nonzero = (ltb-true 0 _ o.sizes, o.entries) }
 
 pub returns-then-n-eq0 : goal.returns-then-n-eq0
 returns-then-n-eq0 c =

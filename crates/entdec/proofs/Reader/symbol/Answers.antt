@@ -36,7 +36,10 @@ overflow_mul-lo-in-loop-lo c =
     let a = c.args in
     let p = c.requires in
     rw c.wide-in-loop-lo.ensures.0
-    (omega (arith, share-le a.self.rng (2 ^ a.ftb) _ (le_of_lt (below (2 ^ a.ftb) a.t.now _ p.t_nonzero.1 (more (goal.at.overflow_mul-lo-in-loop-lo c).In-loop-lo)))))
+    (omega (
+      arith,
+      share-le a.self.rng (2 ^ a.ftb) _ (le_of_lt (below (2 ^ a.ftb) a.t.now _ p.t_nonzero.1 (more (goal.at.overflow_mul-lo-in-loop-lo c).In-loop-lo))),
+    ))
 
 pub loop-lo-preserved : goal.loop-lo-preserved
 loop-lo-preserved c =

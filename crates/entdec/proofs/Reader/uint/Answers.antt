@@ -20,7 +20,8 @@ pub uniform-requires : goal.uniform-requires
 unfolding shape_ok
 uniform-requires c =
     let a = c.args in
-    let o = opened_for (uint a.ft) a.s.now a.self (sym (gated (goal.at.uniform-requires c).After-refusal-n) ∙ c.if-n-eq0.true) in record { ready = sound_ready 1 a.self o.state (lit≤ tt); le_ft = (between 2 a.ft 4294967295 o.known).0 }
+    let o = opened_for (uint a.ft) a.s.now a.self (sym (gated (goal.at.uniform-requires c).After-refusal-n) ∙ c.if-n-eq0.true) in
+    record { ready = sound_ready 1 a.self o.state (lit≤ tt); le_ft = (between 2 a.ft 4294967295 o.known).0 }
 
 pub returns-then-n-eq0 : goal.returns-then-n-eq0
 returns-then-n-eq0 c =

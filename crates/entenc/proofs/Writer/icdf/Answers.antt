@@ -25,11 +25,13 @@ returns-then-no-eq0 c =
     let a = c.args in
     let k = c.put_icdf-w in
     let w = wr a.self a.buf.now in
-    say-next _ (refusal_w (table a.t.now a.ftb) a.s w) w (write_sym (table a.t.now a.ftb) a.s w) (gated (goal.at.returns-then-no-eq0 c).After-refusal_table-no) (wr k.result k.new.buf)
+    say-next _ (refusal_w (table a.t.now a.ftb) a.s w) w (write_sym (table a.t.now a.ftb) a.s w)
+    (gated (goal.at.returns-then-no-eq0 c).After-refusal_table-no) (wr k.result k.new.buf)
     c.if-no-eq0.true k.ensures
 
 pub returns-else-no-eq0 : goal.returns-else-no-eq0
 returns-else-no-eq0 c =
     let a = c.args in
     let w = wr a.self a.buf.now in
-    say_no _ (refusal_w (table a.t.now a.ftb) a.s w) w (write_sym (table a.t.now a.ftb) a.s w) (gated (goal.at.returns-else-no-eq0 c).After-refusal_table-no) c.if-no-eq0.false
+    say_no _ (refusal_w (table a.t.now a.ftb) a.s w) w (write_sym (table a.t.now a.ftb) a.s w)
+    (gated (goal.at.returns-else-no-eq0 c).After-refusal_table-no) c.if-no-eq0.false

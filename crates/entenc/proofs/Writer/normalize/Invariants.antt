@@ -9,7 +9,8 @@ use Rattle.entenc.proofs.Writer.normalize.Given as goal
 
 abbrev pub invariant-loop-w : goal.invariant-loop-w
 invariant-loop-w l =
-    Renormalizing (renorm_steps l.w.rng) (wr l.w l.buf) × (length l.buf ≡ length l.initial.buf) × (normal_w (wr l.initial.w l.initial.buf) ≡ normal_w (wr l.w l.buf))
+    Renormalizing (renorm_steps l.w.rng) (wr l.w l.buf) × (length l.buf ≡ length l.initial.buf)
+    × (normal_w (wr l.initial.w l.initial.buf) ≡ normal_w (wr l.w l.buf))
 
 abbrev pub decreases-loop-w : goal.decreases-loop-w
 decreases-loop-w l = renorm_steps l.w.rng

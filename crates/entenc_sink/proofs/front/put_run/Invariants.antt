@@ -7,7 +7,8 @@ use Rattle.entenc_sink.proofs.front.put_run.Given as goal
 
 abbrev pub invariant-loop-k : goal.invariant-loop-k
 invariant-loop-k l =
-    Fit (out l.t l.buf) × (length l.buf ≡ length l.initial.buf) × (emit (replicate l.initial.k l.b) (out l.initial.t l.initial.buf) ≡ emit (replicate l.k l.b) (out l.t l.buf))
+    Fit (out l.t l.buf) × (length l.buf ≡ length l.initial.buf)
+    × (emit (replicate l.initial.k l.b) (out l.initial.t l.initial.buf) ≡ emit (replicate l.k l.b) (out l.t l.buf))
 
 abbrev pub decreases-loop-k : goal.decreases-loop-k
 decreases-loop-k l = l.k

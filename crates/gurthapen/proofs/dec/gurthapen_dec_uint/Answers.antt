@@ -1,9 +1,8 @@
 -- `gurthapen_dec_uint`: the lengths, the call, and what is left of it. Assumes nothing.
 use mathlib.Core.Path.{◌≡◌}
 use mathlib.Core.Bool.{true, ◌&&◌}
-use lib.ListN.{length}
 use Rattle.gurthapen_state.specs.State.{is_stored, is_long}
-use Rattle.gurthapen_answer.proofs.Exports.{Both, stored-both, wrong_lengths, right_lengths}
+use Rattle.gurthapen_answer.proofs.Exports.{wrong_lengths, right_lengths}
 use Rattle.gurthapen.proofs.dec.gurthapen_dec_uint.Goals as goal
 use Rattle.gurthapen.proofs.dec.gurthapen_dec_uint.Goals.{Then-is_stored-value}
 
@@ -11,9 +10,6 @@ use Rattle.gurthapen.proofs.dec.gurthapen_dec_uint.Goals.{Then-is_stored-value}
 -- the tests of the guard
 tested : (c : Then-is_stored-value) → let a = c.args in (is_stored a.state.now && is_long 1 a.value.now) ≡ true
 tested c = rw c.is_stored.ensures at c.if-is_stored-value.true
-
-lengths : (c : Then-is_stored-value) → let a = c.args in Both (length a.state.now) 12 (length a.value.now) 1
-lengths c = let a = c.args in stored-both a.state.now a.value.now 1 (tested c)
 
 pub returns-then-is_stored-value : goal.returns-then-is_stored-value
 returns-then-is_stored-value c =

@@ -2,10 +2,9 @@
 use mir.Facts.{to_z-of_z}
 use mathlib.Core.Path.{◌≡◌}
 use mathlib.Core.Bool.{true, ◌&&◌}
-use lib.ListN.{length}
 use Rattle.gurthapen_state.specs.State.{is_stored, is_long}
 use Rattle.gurthapen.proofs.Joined.{wrote_value}
-use Rattle.gurthapen_answer.proofs.Exports.{Both, stored-both, wrong_lengths, right_lengths}
+use Rattle.gurthapen_answer.proofs.Exports.{wrong_lengths, right_lengths}
 use Rattle.gurthapen.proofs.lap.gurthapen_laplace_encode.Goals as goal
 use Rattle.gurthapen.proofs.lap.gurthapen_laplace_encode.Goals.{Then-is_stored-value}
 
@@ -13,9 +12,6 @@ use Rattle.gurthapen.proofs.lap.gurthapen_laplace_encode.Goals.{Then-is_stored-v
 -- the tests of the guard
 tested : (c : Then-is_stored-value) → let a = c.args in (is_stored a.state.now && is_long 1 a.value.now) ≡ true
 tested c = rw c.is_stored.ensures at c.if-is_stored-value.true
-
-lengths : (c : Then-is_stored-value) → let a = c.args in Both (length a.state.now) 12 (length a.value.now) 1
-lengths c = let a = c.args in stored-both a.state.now a.value.now 1 (tested c)
 
 pub returns-then-is_stored-value : goal.returns-then-is_stored-value
 returns-then-is_stored-value c =

@@ -1,10 +1,9 @@
 -- `gurthapen_decode_pulses`: the lengths, the call, and what is left of it. Assumes nothing.
 use mathlib.Core.Path.{◌≡◌}
 use mathlib.Core.Bool.{true, ◌&&◌}
-use lib.ListN.{length}
 use Rattle.gurthapen_state.specs.State.{is_stored, is_long}
 use Rattle.gurthapen.proofs.Joined.{placed}
-use Rattle.gurthapen_answer.proofs.Exports.{Both, stored-both, wrong_lengths, right_lengths}
+use Rattle.gurthapen_answer.proofs.Exports.{wrong_lengths, right_lengths}
 use Rattle.gurthapen.proofs.pulses.gurthapen_decode_pulses.Goals as goal
 use Rattle.gurthapen.proofs.pulses.gurthapen_decode_pulses.Goals.{Then-is_stored-energy}
 
@@ -12,9 +11,6 @@ use Rattle.gurthapen.proofs.pulses.gurthapen_decode_pulses.Goals.{Then-is_stored
 -- the tests of the guard
 tested : (c : Then-is_stored-energy) → let a = c.args in (is_stored a.state.now && is_long 1 a.energy.now) ≡ true
 tested c = rw c.is_stored.ensures at c.if-is_stored-energy.true
-
-lengths : (c : Then-is_stored-energy) → let a = c.args in Both (length a.state.now) 12 (length a.energy.now) 1
-lengths c = let a = c.args in stored-both a.state.now a.energy.now 1 (tested c)
 
 pub returns-then-is_stored-energy : goal.returns-then-is_stored-energy
 returns-then-is_stored-energy c =

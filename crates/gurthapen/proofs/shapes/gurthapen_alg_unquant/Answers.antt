@@ -1,10 +1,9 @@
 -- `gurthapen_alg_unquant`: the lengths, the call, and what is left of it. Assumes nothing.
 use mathlib.Core.Path.{◌≡◌}
 use mathlib.Core.Bool.{true, ◌&&◌}
-use lib.ListN.{length}
 use Rattle.gurthapen_state.specs.State.{is_stored, is_long}
 use Rattle.gurthapen.proofs.Floats.{shape-left}
-use Rattle.gurthapen_answer.proofs.Exports.{Both, stored-both, wrong_lengths, right_lengths}
+use Rattle.gurthapen_answer.proofs.Exports.{wrong_lengths, right_lengths}
 use Rattle.gurthapen.proofs.shapes.gurthapen_alg_unquant.Goals as goal
 use Rattle.gurthapen.proofs.shapes.gurthapen_alg_unquant.Goals.{Then-is_stored-mask}
 
@@ -12,9 +11,6 @@ use Rattle.gurthapen.proofs.shapes.gurthapen_alg_unquant.Goals.{Then-is_stored-m
 -- the tests of the guard
 tested : (c : Then-is_stored-mask) → let a = c.args in (is_stored a.state.now && is_long 1 a.mask.now) ≡ true
 tested c = rw c.is_stored.ensures at c.if-is_stored-mask.true
-
-lengths : (c : Then-is_stored-mask) → let a = c.args in Both (length a.state.now) 12 (length a.mask.now) 1
-lengths c = let a = c.args in stored-both a.state.now a.mask.now 1 (tested c)
 
 pub returns-then-is_stored-mask : goal.returns-then-is_stored-mask
 returns-then-is_stored-mask c =

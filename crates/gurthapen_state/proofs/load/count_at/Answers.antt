@@ -28,11 +28,13 @@ is c = counted 4294967295 (it (goal.at.Then-is_count c).After-is_count) (lit< tt
 pub returns-then-is_count : goal.returns-then-is_count
 unfolding count_of
 returns-then-is_count c =
-    let e : is_count (it (goal.at.returns-then-is_count c).After-is_count) ≡ true = sym (tested (goal.at.returns-then-is_count c).After-is_count) ∙ c.if-is_count.true in
+    let e : is_count (it (goal.at.returns-then-is_count c).After-is_count) ≡ true = sym (tested (goal.at.returns-then-is_count c).After-is_count)
+    ∙ c.if-is_count.true in
     rw (to_z-of_z (fits (goal.at.returns-then-is_count c).After-is_count), e) (is (goal.at.returns-then-is_count c).Then-is_count).is
 
 pub returns-else-is_count : goal.returns-else-is_count
 unfolding count_of
 returns-else-is_count c =
-    let e : is_count (it (goal.at.returns-else-is_count c).After-is_count) ≡ false = sym (tested (goal.at.returns-else-is_count c).After-is_count) ∙ c.if-is_count.false in
+    let e : is_count (it (goal.at.returns-else-is_count c).After-is_count) ≡ false = sym (tested (goal.at.returns-else-is_count c).After-is_count)
+    ∙ c.if-is_count.false in
     rw e

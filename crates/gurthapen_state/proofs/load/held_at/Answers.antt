@@ -28,10 +28,12 @@ is c = counted 255 (it (goal.at.Then-x c).After-x-1) (lit< tt) (inside c)
 
 pub returns-then-x : goal.returns-then-x
 unfolding held_of
-returns-then-x c = rw (to_z-of_z (fits (goal.at.returns-then-x c).After-x-1), inside (goal.at.returns-then-x c).Then-x) (is (goal.at.returns-then-x c).Then-x).is
+returns-then-x c = rw (to_z-of_z (fits (goal.at.returns-then-x c).After-x-1), inside (goal.at.returns-then-x c).Then-x)
+    (is (goal.at.returns-then-x c).Then-x).is
 
 pub returns-else-x : goal.returns-else-x
 unfolding held_of
 returns-else-x c =
-    let e : in_range (pos 0) (pos 255) (it (goal.at.returns-else-x c).After-x-1) ≡ false = rw (to_z-of_z (fits (goal.at.returns-else-x c).After-x-1)) at c.if-x.false in
+    let e : in_range (pos 0) (pos 255) (it (goal.at.returns-else-x c).After-x-1)
+    ≡ false = rw (to_z-of_z (fits (goal.at.returns-else-x c).After-x-1)) at c.if-x.false in
     rw e

@@ -16,7 +16,12 @@ write_allocation-requires c =
     let d = c.decide-d in
     let b = line-bands c.args.line.now in
     let f = ap (λ (x : Decision). x.start) d.ensures in
-    let g = ap (λ (x : Decision). x.end) d.ensures in record { start_le_end = (omega (arith, f, g, b.0), omega (arith, g, b.1), c.requires); pulses_len = (d.auto.pulses, d.auto.fine, d.auto.priorities) }
+    let g = ap
+    (λ (x : Decision). x.end) d.ensures in record {
+      start_le_end = (omega (arith, f, g, b.0), omega (arith, g, b.1), c.requires);
+      pulses_len =
+          (d.auto.pulses, d.auto.fine, d.auto.priorities);
+    }
 
 pub returns : goal.returns
 returns c =

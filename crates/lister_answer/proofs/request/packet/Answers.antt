@@ -1,4 +1,4 @@
--- `lister_answer::request::packet`: each test is one of `wellFormed`, and the bytes are those that `hex::bytes` stored. Assumes nothing.
+-- `lister_answer::request::packet`: each test is one of `well_formed`, and the bytes are those that `hex::bytes` stored. Assumes nothing.
 use Rattle.lister_answer.proofs.Requests.{packet-long, packet-fields, packet_good, packet_bad}
 use Rattle.text.proofs.FieldLaws.{field-length}
 use Rattle.lister_answer.proofs.request.packet.Goals as goal

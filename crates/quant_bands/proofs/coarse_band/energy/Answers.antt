@@ -26,7 +26,8 @@ whole c = to_z-of_z {w = w32} (size_fits c.read_step-y.result.value (lt_of_le_of
 
 pub int_to_float-q : goal.int_to_float-q
 int_to_float-q c =
-    rw (whole (goal.at.int_to_float-q c).After-read_step-y) (whole_float c.read_step-y.result.value (omega (arith, small (goal.at.int_to_float-q c).After-read_step-y)))
+    rw (whole (goal.at.int_to_float-q c).After-read_step-y) (whole_float c.read_step-y.result.value
+    (omega (arith, small (goal.at.int_to_float-q c).After-read_step-y)))
 
 pub returns : goal.returns
 returns c =

@@ -17,7 +17,12 @@ pub coarse_band-g-requires : goal.coarse_band-g-requires
 coarse_band-g-requires c =
     let l = c.loop-i in
     let a = c.args in
-    let b = c.requires.bands_in.0 in record { e_len = (l.invariant.2 ∙ c.requires.bands_in.2, c.requires.bands_in.3, c.requires.bands_in.1, omega (arith, b.end-le)); ready = coarse_ready a.c a.lm a.intra a.s.now a.start (l.i - a.start) _ c.requires.bands_in.1 (omega (arith, b.end-le)) c.requires.ready l.invariant.3 }
+    let b = c.requires.bands_in.0
+    in record {
+      e_len = (l.invariant.2 ∙ c.requires.bands_in.2, c.requires.bands_in.3, c.requires.bands_in.1, omega (arith, b.end-le));
+      ready = coarse_ready
+          a.c a.lm a.intra a.s.now a.start (l.i - a.start) _ c.requires.bands_in.1 (omega (arith, b.end-le)) c.requires.ready l.invariant.3;
+    }
 
 pub loop-i-preserved : goal.loop-i-preserved
 loop-i-preserved c =

@@ -10,7 +10,8 @@ abbrev pub invariant-loop-i : goal.invariant-loop-i
 invariant-loop-i l =
     (l.start ≤ l.i) × (l.i ≤ l.end) × (length l.energies ≡ length l.initial.energies)
     × (coarse_state l.energies l.g.first l.g.second l.g.next
-    ≡ over_places (coarse_band l.c l.lm l.intra l.s) l.start (l.i - l.start) (coarse_state l.initial.energies l.initial.g.first l.initial.g.second l.initial.g.next))
+    ≡ over_places (coarse_band l.c l.lm l.intra l.s) l.start (l.i - l.start)
+    (coarse_state l.initial.energies l.initial.g.first l.initial.g.second l.initial.g.next))
 
 abbrev pub decreases-loop-i : goal.decreases-loop-i
 decreases-loop-i l = l.end - l.i

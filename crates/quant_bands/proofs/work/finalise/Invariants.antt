@@ -12,7 +12,8 @@ abbrev pub invariant-loop-pass : goal.invariant-loop-pass
 invariant-loop-pass l =
     (l.pass ≤ 2) × (length l.energies ≡ length l.initial.energies)
     × (spending l.energies l.y.left l.y.next
-    ≡ over_places (pass_of l.c (count_at l.fine) (count_at l.priorities) l.start l.end l.s) 0 (l.pass - 0) (spending l.initial.energies l.initial.y.left l.initial.y.next))
+    ≡ over_places (pass_of l.c (count_at l.fine) (count_at l.priorities) l.start l.end l.s) 0 (l.pass - 0)
+    (spending l.initial.energies l.initial.y.left l.initial.y.next))
 
 abbrev pub decreases-loop-pass : goal.decreases-loop-pass
 decreases-loop-pass l = 2 - l.pass

@@ -11,7 +11,8 @@ abbrev pub invariant-loop-i : goal.invariant-loop-i
 invariant-loop-i l =
     (l.start ≤ l.i) × (l.i ≤ l.end) × (length l.energies ≡ length l.initial.energies)
     × (spending l.energies l.y.left l.y.next
-    ≡ over_places (spend_band l.c l.pass (count_at l.fine) (count_at l.priorities) l.s) l.start (l.i - l.start) (spending l.initial.energies l.initial.y.left l.initial.y.next))
+    ≡ over_places (spend_band l.c l.pass (count_at l.fine) (count_at l.priorities) l.s) l.start (l.i - l.start)
+    (spending l.initial.energies l.initial.y.left l.initial.y.next))
 
 abbrev pub decreases-loop-i : goal.decreases-loop-i
 decreases-loop-i l = l.end - l.i

@@ -56,7 +56,9 @@ counted : (c : After-split_bands-balance) →
     c.skip_read-skipped.result.coded c.split_bands-balance.result c.intensity_read-i.result.band c.dual_read-dual.result.yes
     c.dual_read-dual.result.next
 counted c =
-    numbered (started (goal.at.After-split_bands-balance c).After-begin-b) (read_ask c.args.s.now) c.args.d (went (goal.at.After-split_bands-balance c).After-skip_read-skipped) (answered (goal.at.After-split_bands-balance c).After-dual_read-dual) c.left_of-left.ensures c.split_bands-balance.ensures.0
+    numbered (started (goal.at.After-split_bands-balance c).After-begin-b) (read_ask c.args.s.now) c.args.d
+    (went (goal.at.After-split_bands-balance c).After-skip_read-skipped) (answered (goal.at.After-split_bands-balance c).After-dual_read-dual)
+    c.left_of-left.ensures c.split_bands-balance.ensures.0
 
 pub skip_read-skipped-requires : goal.skip_read-skipped-requires
 skip_read-skipped-requires c =
@@ -82,7 +84,11 @@ left_of-left-requires c =
 
 pub split_bands-balance-requires : goal.split_bands-balance-requires
 split_bands-balance-requires c =
-    record { split_in = split_in (started (goal.at.split_bands-balance-requires c).After-begin-b) (read_ask c.args.s.now) c.args.d (went (goal.at.split_bands-balance-requires c).After-skip_read-skipped) _ c.left_of-left.ensures; pulses_len = c.requires.pulses_len }
+    record {
+      split_in = split_in (started (goal.at.split_bands-balance-requires c).After-begin-b) (read_ask c.args.s.now) c.args.d
+          (went (goal.at.split_bands-balance-requires c).After-skip_read-skipped) _ c.left_of-left.ensures;
+      pulses_len = c.requires.pulses_len;
+    }
 
 pub read_figures-requires : goal.read_figures-requires
 read_figures-requires c =
@@ -98,7 +104,11 @@ returns c =
     let e = c.split_bands-balance.ensures in
     let A = read_ask c.args.s.now in (
       c.read_figures.ensures ∙ figures-read (counted (goal.at.returns c).After-split_bands-balance),
-      lists-same (listed_is (started (goal.at.returns c).After-begin-b) A c.args.d (went (goal.at.returns c).After-skip_read-skipped) (answered (goal.at.returns c).After-dual_read-dual) l (λ x. x.pulses) _ e.1)
-          (listed_is (started (goal.at.returns c).After-begin-b) A c.args.d (went (goal.at.returns c).After-skip_read-skipped) (answered (goal.at.returns c).After-dual_read-dual) l (λ x. x.fine) _ e.2)
-          (listed_is (started (goal.at.returns c).After-begin-b) A c.args.d (went (goal.at.returns c).After-skip_read-skipped) (answered (goal.at.returns c).After-dual_read-dual) l (λ x. x.prio) _ e.3),
+      lists-same
+          (listed_is (started (goal.at.returns c).After-begin-b) A c.args.d (went (goal.at.returns c).After-skip_read-skipped)
+          (answered (goal.at.returns c).After-dual_read-dual) l (λ x. x.pulses) _ e.1)
+          (listed_is (started (goal.at.returns c).After-begin-b) A c.args.d (went (goal.at.returns c).After-skip_read-skipped)
+          (answered (goal.at.returns c).After-dual_read-dual) l (λ x. x.fine) _ e.2)
+          (listed_is (started (goal.at.returns c).After-begin-b) A c.args.d (went (goal.at.returns c).After-skip_read-skipped)
+          (answered (goal.at.returns c).After-dual_read-dual) l (λ x. x.prio) _ e.3),
     )

@@ -53,7 +53,8 @@ went c =
 range : (c : After-skip_write-skipped) → let r = c.skip_write-skipped.result in
     (c.args.f.start < r.coded) × (r.coded ≤ c.args.f.end)
 range c =
-    coded_range (started (goal.at.After-skip_write-skipped c).After-begin-b) (asker (goal.at.After-skip_write-skipped c).Start) (first (goal.at.After-skip_write-skipped c).Start) (went c)
+    coded_range (started (goal.at.After-skip_write-skipped c).After-begin-b) (asker (goal.at.After-skip_write-skipped c).Start)
+    (first (goal.at.After-skip_write-skipped c).Start) (went c)
 
 -- the stereo symbols, and the numbers. At After-dual-write: dual-write-arg, then, slice-known3, buf2, intensity-write, .., skip-write
 answered : (c : After-dual_write-apart) →
@@ -74,15 +75,22 @@ answered c =
 
 counted : (c : After-split_bands-balance)
     →
-    Numbered (alloc (alloc_in c.args.f c.args.offsets.now c.args.caps.now) (asker (goal.at.After-split_bands-balance c).Start) (first (goal.at.After-split_bands-balance c).Start))
+    Numbered (alloc (alloc_in c.args.f c.args.offsets.now c.args.caps.now) (asker (goal.at.After-split_bands-balance c).Start)
+    (first (goal.at.After-split_bands-balance c).Start))
     c.skip_write-skipped.result.coded c.split_bands-balance.result c.intensity_write-i.result.band c.dual_write-apart.result.yes
     (wr c.dual_write-apart.result.next c.dual_write-apart.new.buf)
 counted c =
-    numbered (started (goal.at.After-split_bands-balance c).After-begin-b) (asker (goal.at.After-split_bands-balance c).Start) (first (goal.at.After-split_bands-balance c).Start) (went (goal.at.After-split_bands-balance c).After-skip_write-skipped) (answered (goal.at.After-split_bands-balance c).After-dual_write-apart) c.left_of-left.ensures c.split_bands-balance.ensures.0
+    numbered (started (goal.at.After-split_bands-balance c).After-begin-b) (asker (goal.at.After-split_bands-balance c).Start)
+    (first (goal.at.After-split_bands-balance c).Start) (went (goal.at.After-split_bands-balance c).After-skip_write-skipped)
+    (answered (goal.at.After-split_bands-balance c).After-dual_write-apart) c.left_of-left.ensures c.split_bands-balance.ensures.0
 
 pub skip_write-skipped-requires : goal.skip_write-skipped-requires
-skip_write-skipped-requires c =
-    (skip_in (started (goal.at.skip_write-skipped-requires c).After-begin-b) (asker (goal.at.skip_write-skipped-requires c).Start) (first (goal.at.skip_write-skipped-requires c).Start), c.requires.alloc_counts_ok.2, refl)
+skip_write-skipped-requires c = (
+  skip_in (started (goal.at.skip_write-skipped-requires c).After-begin-b) (asker (goal.at.skip_write-skipped-requires c).Start)
+      (first (goal.at.skip_write-skipped-requires c).Start),
+  c.requires.alloc_counts_ok.2,
+  refl,
+)
 
 pub intensity_write-i-requires : goal.intensity_write-i-requires
 intensity_write-i-requires c =
@@ -99,12 +107,18 @@ left_of-left-requires c =
     let a = c.args in (
       c.requires.alloc_counts_ok.0,
       reserved-bare a.f a.offsets.now a.caps.now c.begin-b.ensures.0.reserved,
-      left_le (started (goal.at.left_of-left-requires c).After-begin-b) (asker (goal.at.left_of-left-requires c).Start) (first (goal.at.left_of-left-requires c).Start) (went (goal.at.left_of-left-requires c).After-skip_write-skipped),
+      left_le (started (goal.at.left_of-left-requires c).After-begin-b) (asker (goal.at.left_of-left-requires c).Start)
+          (first (goal.at.left_of-left-requires c).Start) (went (goal.at.left_of-left-requires c).After-skip_write-skipped),
     )
 
 pub split_bands-balance-requires : goal.split_bands-balance-requires
 split_bands-balance-requires c =
-    record { split_in = split_in (started (goal.at.split_bands-balance-requires c).After-begin-b) (asker (goal.at.split_bands-balance-requires c).Start) (first (goal.at.split_bands-balance-requires c).Start) (went (goal.at.split_bands-balance-requires c).After-skip_write-skipped) _ c.left_of-left.ensures; pulses_len = c.requires.pulses_len }
+    record {
+      split_in = split_in (started (goal.at.split_bands-balance-requires c).After-begin-b)
+          (asker (goal.at.split_bands-balance-requires c).Start) (first (goal.at.split_bands-balance-requires c).Start)
+          (went (goal.at.split_bands-balance-requires c).After-skip_write-skipped) _ c.left_of-left.ensures;
+      pulses_len = c.requires.pulses_len;
+    }
 
 pub written_figures-requires : goal.written_figures-requires
 written_figures-requires c =
@@ -121,7 +135,11 @@ returns c =
     let n = counted (goal.at.returns c).After-split_bands-balance in (
       c.written_figures.ensures ∙ figures-written n,
       ap (λ (w : Wr). w.bytes) (sym n.state_is),
-      lists-same (listed_is (started (goal.at.returns c).After-begin-b) (asker (goal.at.returns c).Start) (first (goal.at.returns c).Start) (went (goal.at.returns c).After-skip_write-skipped) (answered (goal.at.returns c).After-dual_write-apart) l (λ x. x.pulses) _ e.1)
-          (listed_is (started (goal.at.returns c).After-begin-b) (asker (goal.at.returns c).Start) (first (goal.at.returns c).Start) (went (goal.at.returns c).After-skip_write-skipped) (answered (goal.at.returns c).After-dual_write-apart) l (λ x. x.fine) _ e.2)
-          (listed_is (started (goal.at.returns c).After-begin-b) (asker (goal.at.returns c).Start) (first (goal.at.returns c).Start) (went (goal.at.returns c).After-skip_write-skipped) (answered (goal.at.returns c).After-dual_write-apart) l (λ x. x.prio) _ e.3),
+      lists-same
+          (listed_is (started (goal.at.returns c).After-begin-b) (asker (goal.at.returns c).Start) (first (goal.at.returns c).Start)
+          (went (goal.at.returns c).After-skip_write-skipped) (answered (goal.at.returns c).After-dual_write-apart) l (λ x. x.pulses) _ e.1)
+          (listed_is (started (goal.at.returns c).After-begin-b) (asker (goal.at.returns c).Start) (first (goal.at.returns c).Start)
+          (went (goal.at.returns c).After-skip_write-skipped) (answered (goal.at.returns c).After-dual_write-apart) l (λ x. x.fine) _ e.2)
+          (listed_is (started (goal.at.returns c).After-begin-b) (asker (goal.at.returns c).Start) (first (goal.at.returns c).Start)
+          (went (goal.at.returns c).After-skip_write-skipped) (answered (goal.at.returns c).After-dual_write-apart) l (λ x. x.prio) _ e.3),
     )

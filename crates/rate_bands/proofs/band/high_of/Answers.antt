@@ -27,7 +27,12 @@ trimmed_of-requires-2 c =
 
 pub overflow_add-result-2 : goal.overflow_add-result-2
 overflow_add-result-2 c =
-    omega (arith, product (goal.at.overflow_add-result-2 c).After-step_in-s, trimmed-most c.requires.0 _ c.args.j c.trimmed_of-2.ensures, c.requires.1.offsets-le c.args.j)
+    omega (
+      arith,
+      product (goal.at.overflow_add-result-2 c).After-step_in-s,
+      trimmed-most c.requires.0 _ c.args.j c.trimmed_of-2.ensures,
+      c.requires.1.offsets-le c.args.j,
+    )
 
 pub returns : goal.returns
 returns c =

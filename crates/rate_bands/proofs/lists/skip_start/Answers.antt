@@ -17,8 +17,12 @@ returns-then-offsets-j-gt0 c =
 
 pub loop-j-preserved : goal.loop-j-preserved
 loop-j-preserved c =
-    let a = c.args in
-    (omega arith, omega arith, sym (boost_below (alloc_in a.f a.offsets.now a.caps.now) c.loop-j.j (omega arith) c.if-offsets-j-gt0.false) ∙ c.loop-j.invariant.2)
+    let a = c.args in (
+      omega arith,
+      omega arith,
+      sym (boost_below (alloc_in a.f a.offsets.now a.caps.now) c.loop-j.j (omega arith) c.if-offsets-j-gt0.false)
+          ∙ c.loop-j.invariant.2,
+    )
 
 pub returns : goal.returns
 returns c =

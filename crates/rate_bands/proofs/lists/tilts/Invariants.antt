@@ -10,7 +10,8 @@ use Rattle.rate_bands.proofs.lists.tilts.Given as goal
 abbrev pub invariant-loop-j : goal.invariant-loop-j
 invariant-loop-j l =
     (l.f.start ≤ l.j) × (l.j ≤ l.f.end) × (l.thresholds ≡ fill (threshold (bare l.f)) l.f.start (l.j - l.f.start) l.initial.thresholds)
-    × (l.scales ≡ fill (scale (bare l.f)) l.f.start (l.j - l.f.start) l.initial.scales) × (l.ups ≡ fill (trim_up (bare l.f)) l.f.start (l.j - l.f.start) l.initial.ups)
+    × (l.scales ≡ fill (scale (bare l.f)) l.f.start (l.j - l.f.start) l.initial.scales)
+    × (l.ups ≡ fill (trim_up (bare l.f)) l.f.start (l.j - l.f.start) l.initial.ups)
     × (l.downs ≡ fill (trim_down (bare l.f)) l.f.start (l.j - l.f.start) l.initial.downs)
 
 abbrev pub decreases-loop-j : goal.decreases-loop-j

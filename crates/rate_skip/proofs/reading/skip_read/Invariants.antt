@@ -15,7 +15,10 @@ use Rattle.rate_skip.proofs.reading.skip_read.Given as goal
 abbrev pub invariant-loop-coded : goal.invariant-loop-coded
 invariant-loop-coded l =
     (l.coded ≤ l.f.end) × (l.hi ≡ edge l.coded) × (length l.kept ≡ length l.initial.kept) × Ready (l.coded - suc l.low + 2) l.at
-    × Going l.f l.bits (read_ask l.s) l.low (skip_ending (skip (bare l.f) (λ j. get_or l.bits j 0) (read_ask l.s) (l.f.end - suc l.low) (round_of l.f.end l.left l.reserve []) l.initial.at))
+    × Going l.f
+    l.bits (read_ask
+    l.s) l.low
+    (skip_ending (skip (bare l.f) (λ j. get_or l.bits j 0) (read_ask l.s) (l.f.end - suc l.low) (round_of l.f.end l.left l.reserve []) l.initial.at))
     (round_of l.coded l.rest l.held (kept_of l.f.end l.coded l.kept)) l.at
 
 abbrev pub decreases-loop-coded : goal.decreases-loop-coded

@@ -1,6 +1,5 @@
 -- `rate_skip::writing::skip_write`: before each round, the rounds that are left give what all of them gave. Assumes nothing.
 use Prim.Native.Nat.{suc, ◌+◌, ◌-◌, ◌<◌}
-use mathlib.Core.Bool.{false}
 use mathlib.Core.Path.{◌≡◌, ◌∙◌}
 use native.Mathlib.Omega.{arith}
 use lib.ListN.{length-set}
@@ -20,7 +19,8 @@ round_of-y-requires c =
 
 pub overflow_sub-hi : goal.overflow_sub-hi
 overflow_sub-hi c =
-    rw (c.edge_of-lo.ensures.0, c.loop-coded.invariant.1) (edge-le (c.loop-coded.coded - 1) c.loop-coded.coded (omega arith) c.loop-coded.invariant.5.sound.below)
+    rw (c.edge_of-lo.ensures.0, c.loop-coded.invariant.1) (edge-le (c.loop-coded.coded - 1) c.loop-coded.coded (omega arith)
+    c.loop-coded.invariant.5.sound.below)
 
 pub flag_write-x-requires : goal.flag_write-x-requires
 flag_write-x-requires c =
@@ -40,7 +40,8 @@ returns-then-x c =
     let m : c.args.low + 1 < c.loop-coded.coded = omega (arith, c) in
     let e : c.loop-coded.coded - suc c.args.low + 2 ≡ suc (c.loop-coded.coded - 1 - suc c.args.low + 2) = omega arith in
     let q = c.flag_write-x.ensures in
-    let k = flag-write (c.loop-coded.coded - 1 - suc c.args.low + 2) y.result.asked _ (wr c.loop-coded.at c.loop-coded.buf) q (rw e at c.loop-coded.invariant.4) in (
+    let k = flag-write (c.loop-coded.coded - 1 - suc c.args.low + 2) y.result.asked _ (wr c.loop-coded.at c.loop-coded.buf) q
+    (rw e at c.loop-coded.invariant.4) in (
       rw (to_z-of_z c.ranges.previous, to_z-of_z c.ranges.bandwidth) at (going-stops _ _ _ _ c.loop-coded.invariant.5 m y.ensures q c.if-x.true),
       write_less 2 _
           _ (omega arith) k,

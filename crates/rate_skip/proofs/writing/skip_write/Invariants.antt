@@ -16,7 +16,8 @@ use Rattle.rate_skip.proofs.writing.skip_write.Given as goal
 
 abbrev pub invariant-loop-coded : goal.invariant-loop-coded
 invariant-loop-coded l =
-    (l.coded ≤ l.f.end) × (l.hi ≡ edge l.coded) × (length l.kept ≡ length l.initial.kept) × (length l.buf ≡ length l.initial.buf) × Ready (l.coded - suc l.low + 2) (wr l.at l.buf)
+    (l.coded ≤ l.f.end) × (l.hi ≡ edge l.coded) × (length l.kept ≡ length l.initial.kept) × (length l.buf ≡ length l.initial.buf)
+    × Ready (l.coded - suc l.low + 2) (wr l.at l.buf)
     × Going l.f l.bits (write_ask (bare l.f) l.previous l.bandwidth 0 false) l.low
     (skip_ending (skip (bare l.f) (λ j. get_or l.bits j 0) (write_ask (bare l.f) l.previous l.bandwidth 0 false) (l.f.end - suc l.low)
     (round_of l.f.end l.left l.reserve []) (wr l.initial.at l.initial.buf)))

@@ -17,8 +17,22 @@ small c =
 
 pub returns-then-e-lt1 : goal.returns-then-e-lt1
 unfolding skipped
-returns-then-e-lt1 c = (rw (← c.floor_of-floor.ensures.0, lt-ltb _ _ c.if-e-lt1.true), refl, omega (arith, small (goal.at.returns-then-e-lt1 c).After-floor_of-floor), omega arith)
+returns-then-e-lt1
+    c = (
+      rw (← c.floor_of-floor.ensures.0, lt-ltb _ _ c.if-e-lt1.true),
+      refl,
+      omega
+          (arith, small (goal.at.returns-then-e-lt1 c).After-floor_of-floor),
+      omega arith,
+    )
 
 pub returns-else-e-lt1 : goal.returns-else-e-lt1
 unfolding skipped
-returns-else-e-lt1 c = (rw (← c.floor_of-floor.ensures.0, le-ltb _ _ c.if-e-lt1.false), refl, omega (arith, small (goal.at.returns-else-e-lt1 c).After-floor_of-floor), omega arith)
+returns-else-e-lt1
+    c = (
+      rw (← c.floor_of-floor.ensures.0, le-ltb _ _ c.if-e-lt1.false),
+      refl,
+      omega
+          (arith, small (goal.at.returns-else-e-lt1 c).After-floor_of-floor),
+      omega arith,
+    )

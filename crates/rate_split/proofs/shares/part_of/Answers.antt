@@ -32,4 +32,10 @@ pub overflow_mul-n : goal.overflow_mul-n
 overflow_mul-n c = rw c.pow2.ensures (omega (arith, (coefficients (goal.at.overflow_mul-n c).Start).1))
 
 pub degrees_of-den-requires : goal.degrees_of-den-requires
-degrees_of-den-requires c = rw c.pow2.ensures (c.requires.0.c_low, c.requires.0.c_le, (coefficients (goal.at.degrees_of-den-requires c).Start).0, (coefficients (goal.at.degrees_of-den-requires c).Start).1)
+degrees_of-den-requires
+    c = rw c.pow2.ensures (
+      c.requires.0.c_low,
+      c.requires.0.c_le,
+      (coefficients (goal.at.degrees_of-den-requires c).Start).0,
+      (coefficients (goal.at.degrees_of-den-requires c).Start).1,
+    )

@@ -46,7 +46,8 @@ apply-requires c =
 pub returns-then-no-eq0 : goal.returns-then-no-eq0
 returns-then-no-eq0 c =
     let f = c.ranges in
-    answer-applied _ c.args.self (called (goal.at.returns-then-no-eq0 c).Start) (sym (gated (goal.at.returns-then-no-eq0 c).After-refusal-no) ∙ c.if-no-eq0.true)
+    answer-applied _ c.args.self (called (goal.at.returns-then-no-eq0 c).Start)
+    (sym (gated (goal.at.returns-then-no-eq0 c).After-refusal-no) ∙ c.if-no-eq0.true)
     (rw (to_z-of_z f.c, to_z-of_z f.lm, to_z-of_z f.start, to_z-of_z f.end, to_z-of_z f.intra) at c.apply.ensures)
 
 pub returns-else-no-eq0 : goal.returns-else-no-eq0

@@ -7,7 +7,8 @@ use Rattle.text.specs.Numbers.{bytes_of}
 use Rattle.text.proofs.hex.store.Given as goal
 
 abbrev pub invariant-loop-i : goal.invariant-loop-i
-invariant-loop-i l = (l.i ≤ l.n) × (l.n ≡ length l.s / 2) × (length l.out ≡ length l.initial.out) × (sets l.out l.i (bytes_of (drop (2 * l.i) l.s)) ≡ sets l.initial.out 0 (bytes_of l.s))
+invariant-loop-i l = (l.i ≤ l.n) × (l.n ≡ length l.s / 2) × (length l.out ≡ length l.initial.out)
+    × (sets l.out l.i (bytes_of (drop (2 * l.i) l.s)) ≡ sets l.initial.out 0 (bytes_of l.s))
 
 abbrev pub decreases-loop-i : goal.decreases-loop-i
 decreases-loop-i l = l.n - l.i

@@ -6,7 +6,8 @@ use Rattle.text.proofs.Blocks.{SameLines}
 use Rattle.text.proofs.lines.fill.Given as goal
 
 abbrev pub invariant-loop-i : goal.invariant-loop-i
-invariant-loop-i l = (length l.buf ≡ length l.initial.buf) × (l.k ≤ length l.initial.buf) × (l.at ≤ l.i) × (l.i ≤ length l.block) × SameLines (length l.initial.buf) (take l.k l.buf)
+invariant-loop-i l = (length l.buf ≡ length l.initial.buf) × (l.k ≤ length l.initial.buf) × (l.at ≤ l.i) × (l.i ≤ length l.block)
+    × SameLines (length l.initial.buf) (take l.k l.buf)
     (drop l.i l.block) (take l.n l.initial.buf) (drop l.at l.block)
 
 abbrev pub decreases-loop-i : goal.decreases-loop-i

@@ -6,7 +6,8 @@ use Rattle.trip_call.specs.Given.{givens_ok}
 use Rattle.trip_call.proofs.given.givens_ok.Given as goal
 
 abbrev pub invariant-loop-i : goal.invariant-loop-i
-invariant-loop-i l = (l.n ≡ length l.symbols / 5) × (l.i ≤ l.n) × (givens_ok l.symbols l.room (l.n - l.i) l.i ≡ givens_ok l.symbols l.room (l.n - l.initial.i) l.initial.i)
+invariant-loop-i l = (l.n ≡ length l.symbols / 5) × (l.i ≤ l.n)
+    × (givens_ok l.symbols l.room (l.n - l.i) l.i ≡ givens_ok l.symbols l.room (l.n - l.initial.i) l.initial.i)
 
 abbrev pub decreases-loop-i : goal.decreases-loop-i
 decreases-loop-i l = l.n - l.i

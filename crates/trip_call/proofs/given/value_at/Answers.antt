@@ -10,4 +10,5 @@ pub returns-then-count-eq0 : goal.returns-then-count-eq0
 returns-then-count-eq0 c = to_z-of_z {w = w32} {z = c.value_of.result} (search rules) ∙ c.value_of.ensures ∙ value_even _ c.if-count-eq0.true
 
 pub returns-else-count-eq0 : goal.returns-else-count-eq0
-returns-else-count-eq0 c = to_z-of_z {w = w32} {z = c.value_of-else-count-eq0.result} (search rules) ∙ c.value_of-else-count-eq0.ensures ∙ value-odd _ c.if-count-eq0.false
+returns-else-count-eq0 c = to_z-of_z {w = w32} {z = c.value_of-else-count-eq0.result} (search rules) ∙ c.value_of-else-count-eq0.ensures
+    ∙ value-odd _ c.if-count-eq0.false

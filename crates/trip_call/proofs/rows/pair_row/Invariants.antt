@@ -9,7 +9,8 @@ use Rattle.trip_call.proofs.rows.pair_row.Given as goal
 abbrev pub invariant-loop-i : goal.invariant-loop-i
 invariant-loop-i l =
     (l.n ≡ length l.symbols / 5) × (l.i ≤ l.n) × (length l.buf ≡ length l.initial.buf) ×
-    (pair_from l.symbols l.tables l.s (l.n - l.i) l.i (wr l.v l.buf) l.e ≡ pair_from l.symbols l.tables l.s (l.n - l.initial.i) l.initial.i (wr l.initial.v l.initial.buf) l.initial.e)
+    (pair_from l.symbols l.tables l.s (l.n - l.i) l.i (wr l.v l.buf) l.e
+    ≡ pair_from l.symbols l.tables l.s (l.n - l.initial.i) l.initial.i (wr l.initial.v l.initial.buf) l.initial.e)
 
 abbrev pub decreases-loop-i : goal.decreases-loop-i
 decreases-loop-i l = l.n - l.i
