@@ -34,7 +34,15 @@ fn main() {
     }
     println!("cargo:rerun-if-changed=build.rs");
     println!("cargo:rerun-if-changed={}", root.join("crates.txt").display());
-    println!("cargo:rerun-if-changed={}", root.join("crates").display());
+    // Not crates/ itself: what the kit builds stands below it, in out/.
+    for name in std::fs::read_dir(root.join("crates")).expect("crates/ can be read").flatten() {
+        for part in ["src", "specs", "proofs"] {
+            let folder = name.path().join(part);
+            if folder.is_dir() {
+                println!("cargo:rerun-if-changed={}", folder.display());
+            }
+        }
+    }
     println!("cargo:rerun-if-env-changed=GURTHAPEN_LIBRARY");
 
     let folder = match env::var_os("GURTHAPEN_LIBRARY") {

@@ -59,8 +59,12 @@ class Record(unittest.TestCase):
         self.assertEqual(edits.said("a/one", log), ("proofs/M.antt:7:3", "this is left: x ≡ y / z"))
 
     def test_without_an_error_that_has_a_place(self):
-        log = "rt: must-fail a/one.edit: refused, as it must be (only by a limit of the prover): 9\n"
-        self.assertEqual(edits.said("a/one", log), ("", "refused, as it must be (only by a limit of the prover): 9"))
+        log = "rt: must-fail a/one.edit: refused, as it must be: 9\n"
+        self.assertEqual(edits.said("a/one", log), ("", "refused, as it must be: 9"))
+
+    def test_what_is_refused_for_another_reason_than_a_fact(self):
+        for why in ("only by a limit of the prover", "only because a proof file names what the edit took away"):
+            self.assertIsNone(edits.said("a/one", f"rt: must-fail a/one.edit: refused, as it must be ({why}): 9\n"))
 
     def test_what_is_not_refused(self):
         for ended in ("NOT REFUSED: the crate is still proved", "BAD EDIT: it changes nothing", "NOT TRIED: its check was killed"):
