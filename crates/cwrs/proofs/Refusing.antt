@@ -87,14 +87,14 @@ module _ (y : List ℤ) (n k : ℕ) where
 -- ---- the call's own number, special, counts only where lengths and numbers are right
 
 -- so the code may compute it as 0 where an earlier refusal applies
-pub late : (a lengths ok numbers lists : Bool) (special p : ℕ) (unclosed tellFits : Bool) → (lengths ≡ true → numbers ≡ true → special ≡ p)
-    → refusal (a && lengths) (ok && numbers) lists special unclosed tellFits ≡ refusal (a && lengths) (ok && numbers) lists p unclosed tellFits
+pub late : (a lengths ok numbers lists : Bool) (special p : ℕ) (unclosed tell_fits : Bool) → (lengths ≡ true → numbers ≡ true → special ≡ p)
+    → refusal (a && lengths) (ok && numbers) lists special unclosed tell_fits ≡ refusal (a && lengths) (ok && numbers) lists p unclosed tell_fits
 unfolding refusal
-late false lengths ok numbers lists special p unclosed tellFits e = refl
-late true false ok numbers lists special p unclosed tellFits e = refl
-late true true false numbers lists special p unclosed tellFits e = refl
-late true true true false lists special p unclosed tellFits e = refl
-late true true true true lists special p unclosed tellFits e = rw (e refl refl)
+late false lengths ok numbers lists special p unclosed tell_fits e = refl
+late true false ok numbers lists special p unclosed tell_fits e = refl
+late true true false numbers lists special p unclosed tell_fits e = refl
+late true true true false lists special p unclosed tell_fits e = refl
+late true true true true lists special p unclosed tell_fits e = rw (e refl refl)
 
 -- x is the test of the numbers, as the code has it
 pub late_read : (m : ℕ) (d : Reader) (lengths numbers : Bool) (p : ℕ) {x : Bool} {special : ℕ} → x ≡ numbers → special ≡ cond numbers p 0

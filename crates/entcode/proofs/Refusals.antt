@@ -7,13 +7,13 @@ use borrow.Author.Tests.{ne_eqb}
 use Rattle.entcode.specs.Refusal.{refusal}
 
 -- no refusal applies: each test by its number
-pub record Passed (lengths numbers lists : Bool) (special : ℕ) (unclosed tellFits : Bool) : Type 0 where
+pub record Passed (lengths numbers lists : Bool) (special : ℕ) (unclosed tell_fits : Bool) : Type 0 where
   pub no_2 : lengths ≡ true
   pub no_1 : numbers ≡ true
   pub no_3 : lists ≡ true
   pub no_special : special ≡ 0
   pub no_12 : unclosed ≡ true
-  pub no_4 : tellFits ≡ true
+  pub no_4 : tell_fits ≡ true
 
 -- by the cases of the definition
 pub passed : (a b c : Bool) (n : ℕ) (d e : Bool) → refusal a b c n d e ≡ 0 → Passed a b c n d e

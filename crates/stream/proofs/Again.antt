@@ -68,13 +68,13 @@ below-is : (next number : ℕ) → number < next → order_of next number ≡ 10
 below-is next number h = rw (lt-ltb number next h)
 
 -- where the tests of 2, 1 and 3 pass and the order says 10, the refusal is 10
-ten : (a b c l : Bool) (special : ℕ) (unclosed tellFits : Bool) → (a && b && c) ≡ true → l ≡ true → special ≡ 10
-    → refusal (a && true) (b && c) l special unclosed tellFits ≡ 10
+ten : (a b c l : Bool) (special : ℕ) (unclosed tell_fits : Bool) → (a && b && c) ≡ true → l ≡ true → special ≡ 10
+    → refusal (a && true) (b && c) l special unclosed tell_fits ≡ 10
 unfolding refusal
-ten true true true l special unclosed tellFits e f g = rw (f, g)
-ten true true false l special unclosed tellFits e f g = absurd (false≢true e)
-ten true false c l special unclosed tellFits e f g = absurd (false≢true e)
-ten false b c l special unclosed tellFits e f g = absurd (false≢true e)
+ten true true true l special unclosed tell_fits e f g = rw (f, g)
+ten true true false l special unclosed tell_fits e f g = absurd (false≢true e)
+ten true false c l special unclosed tell_fits e f g = absurd (false≢true e)
+ten false b c l special unclosed tell_fits e f g = absurd (false≢true e)
 
 -- so such a frame is 10
 below_ten : (r : Record) (q : Call) → well_put r q ≡ true → every finite r.energies ≡ true → q.number < r.next → refusal_frame r q ≡ 10
@@ -88,26 +88,26 @@ unfolding frame_answer
 below-refused r q w f h = ap (λ (n : ℕ). frame_answer n r q) (below_ten r q w f h)
 
 -- the number of the order alone is 10, where the other tests pass
-order_ten : (next number : ℕ) (tellFits : Bool) → refusal true true true (order_of next number) true tellFits ≡ 10 → number < next
+order_ten : (next number : ℕ) (tell_fits : Bool) → refusal true true true (order_of next number) true tell_fits ≡ 10 → number < next
 unfolding refusal
-order_ten next number tellFits e =
-    by_le next number (λ h. by_le number next (λ g. absurd (equal h g tellFits e)) (λ g. absurd (above g e))) (λ h. h)
+order_ten next number tell_fits e =
+    by_le next number (λ h. by_le number next (λ g. absurd (equal h g tell_fits e)) (λ g. absurd (above g e))) (λ h. h)
   where
-    equal : next ≤ number → number ≤ next → (tellFits : Bool) → refusal true true true (order_of next number) true tellFits ≡ 10 → ⊥
+    equal : next ≤ number → number ≤ next → (tell_fits : Bool) → refusal true true true (order_of next number) true tell_fits ≡ 10 → ⊥
     equal h g true e = let z = rw (le-ltb number next h, le-ltb next number g) at e in omega (arith, z)
     equal h g false e = let z = rw (le-ltb number next h, le-ltb next number g) at e in omega (arith, z)
 
-    above : next < number → refusal true true true (order_of next number) true tellFits ≡ 10 → ⊥
+    above : next < number → refusal true true true (order_of next number) true tell_fits ≡ 10 → ⊥
     above g e = let z = rw (le-ltb number next (omega arith), lt-ltb next number g) at e in omega (arith, z)
 
 -- 10 says that the tests before it pass
-ten_is : (a b c l : Bool) (next number : ℕ) (tellFits : Bool) → refusal (a && true) (b && c) l (order_of next number) true tellFits ≡ 10
+ten_is : (a b c l : Bool) (next number : ℕ) (tell_fits : Bool) → refusal (a && true) (b && c) l (order_of next number) true tell_fits ≡ 10
     → ((a && b && c) ≡ true) × (l ≡ true) × (number < next)
-ten_is true true true true next number tellFits e = (refl, refl, order_ten next number tellFits e)
-ten_is true true true false next number tellFits e = absurd (unfold refusal in omega (arith, e))
-ten_is true true false l next number tellFits e = absurd (unfold refusal in omega (arith, e))
-ten_is true false c l next number tellFits e = absurd (unfold refusal in omega (arith, e))
-ten_is false b c l next number tellFits e = absurd (unfold refusal in omega (arith, e))
+ten_is true true true true next number tell_fits e = (refl, refl, order_ten next number tell_fits e)
+ten_is true true true false next number tell_fits e = absurd (unfold refusal in omega (arith, e))
+ten_is true true false l next number tell_fits e = absurd (unfold refusal in omega (arith, e))
+ten_is true false c l next number tell_fits e = absurd (unfold refusal in omega (arith, e))
+ten_is false b c l next number tell_fits e = absurd (unfold refusal in omega (arith, e))
 
 -- of a frame
 ten_below : (r : Record) (q : Call) → refusal_frame r q ≡ 10 → (well_put r q ≡ true) × (every finite r.energies ≡ true) × (q.number < r.next)
@@ -132,11 +132,11 @@ outside r q h =
     (λ e. e)
 
 -- a number outside its domain is 1, whatever the tests after it say, and 2 goes before it
-one_or_two : (a b c l : Bool) (special : ℕ) (tellFits : Bool) → c ≡ false → refusal (a && true) (b && c) l special true tellFits ≡ cond a 1 2
+one_or_two : (a b c l : Bool) (special : ℕ) (tell_fits : Bool) → c ≡ false → refusal (a && true) (b && c) l special true tell_fits ≡ cond a 1 2
 unfolding refusal
-one_or_two true true c l special tellFits e = rw e
-one_or_two true false c l special tellFits e = refl
-one_or_two false b c l special tellFits e = refl
+one_or_two true true c l special tell_fits e = rw e
+one_or_two true false c l special tell_fits e = refl
+one_or_two false b c l special tell_fits e = refl
 
 -- of a frame
 past-number : (r : Record) (q : Call) → 4294967295 < r.next → refusal_frame r q ≡ cond (eqb q.coder.storage (length q.packet)) 1 2

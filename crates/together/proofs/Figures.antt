@@ -8,7 +8,7 @@ use Rattle.modes.specs.Edges.{edges, edge, width}
 use Rattle.modes.specs.Vectors.{vectors, vector_entry}
 use Rattle.modes.specs.Fractions.{fractions, fraction}
 use Rattle.modes.specs.LogWidths.{log_widths, log_width}
-use Rattle.modes.specs.Caps.{caps as capTable, cap_entry}
+use Rattle.modes.specs.Caps.{caps as cap_table, cap_entry}
 use Rattle.entcode.specs.Counts.{counts_ok}
 use Rattle.entcode.specs.Range.{renorm_steps, cut_start, cut_width}
 use Rattle.entcode.specs.Refusal.{refusal}
@@ -51,7 +51,7 @@ use Rattle.together.specs.Figures.{KnownFigures, answered}
 -- every figure at once
 pub known : KnownFigures
 unfolding answered count_leading_zeros every fill sum_of over_places edges edge width vectors vector_entry fractions fraction log_widths log_width
-    capTable cap_entry
+    cap_table cap_entry
     counts_ok renorm_steps cut_start cut_width refusal pull pulls decoded_place update byte_back fetch fetches read_bits fresh_reader read_sym
     reader_ok read_refusal Vn
     answer lent_after pulses_at get_pulses cap_of skip_reserve stereo_fits intensity_reserve dual_reserve budget threshold slope trim_up trim_down

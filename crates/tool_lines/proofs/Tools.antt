@@ -1,7 +1,7 @@
 -- A program that answers lines: from turn to turn nothing is lost and nothing added, and at the end all is written. Assumes nothing.
 use Prim.Native.Nat.{ℕ, ◌+◌, ◌<◌, ◌≤◌}
 use mathlib.Core.Path.{◌≡◌, refl, sym, ap, subst, ◌∙◌}
-use mathlib.Core.Bool.{Bool, true, false, cond, not, true≢false, false≢true}
+use mathlib.Core.Bool.{Bool, true, false, cond, not, ◌&&◌, true≢false, false≢true, and-eq-true_iff}
 use mathlib.Core.List.{List, [], ◌∷◌, ◌++◌, map, append-nil, append_assoc}
 use native.Mathlib.Omega.{arith}
 use lib.Dec.{eqb}
@@ -9,7 +9,7 @@ use lib.ListN.{length, take}
 use borrow.Author.Tests.{eq-eqb}
 use Rattle.tool_io.specs.declared.Input.{Input}
 use Rattle.tool_io.specs.declared.Output.{Output}
-use Rattle.tool_io.specs.Moved.{NewInput, NewOutput}
+use Rattle.tool_io.specs.Moved.{NewInput, NewOutput, OneWrite}
 use Rattle.text.specs.Lines.{lines_of, cut_to}
 use Rattle.text.proofs.Blocks.{whole_stream}
 use Rattle.tool_lines.specs.declared.Reader.{Reader}
@@ -18,6 +18,33 @@ use Rattle.tool_lines.specs.Reading.{lines_after, ready_line, lines_to_come, InB
 use Rattle.tool_lines.specs.Tool.{Tool, text_of_lines, text_of, Ran, Running, Replied, Flushed}
 
 -- ---- the text
+
+-- the first of both
+and_left : (a b : Bool) → (a && b) ≡ true → a ≡ true
+and_left a b e = ((and-eq-true_iff a b).0 e).0
+
+-- where no write failed, whether to go on is as it was
+and_not_false : (a b : Bool) → b ≡ false → (a && not b) ≡ a
+and_not_false true b e = ap not e
+and_not_false false b e = refl
+
+-- the text is handed over
+pub text_handed_over : (p : Pen) (out log : List ℕ) (dry : Bool) (most : ℕ) {o : Output} {l : Bool} (log' calls : List ℕ)
+    → OneWrite p.output log (take p.pending out) o log' calls → l ≡ o.failed
+    → Flushed p out log dry most (record { pending = 0; on = p.on && not l; output = o }) log' calls
+text_handed_over p out log dry most {o} {l} log' calls q e =
+    record {
+      room = omega arith;
+      inside = q.noted.inside;
+      counted = q.counted.lent;
+      empty = λ f. refl;
+      prompt = λ f. refl;
+      going = λ f. and_left p.on (not l) f;
+      fine = q.fine;
+      same = λ f. and_not_false p.on l (e ∙ f);
+      complete = q.noted.before;
+      text = λ f. append-nil (take o.logged log') ∙ q.noted.after f;
+    }
 
 -- ---- a line
 

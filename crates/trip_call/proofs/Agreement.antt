@@ -15,7 +15,7 @@ use Rattle.entenc.specs.Write.{Wr, wr}
 use Rattle.rate.specs.declared.AllocNumbers.{AllocNumbers}
 use Rattle.rate.specs.declared.Wishes.{Wishes}
 use Rattle.rate.specs.declared.WrittenAllocation.{WrittenAllocation}
-use Rattle.rate.specs.declared.AllocWrote.TheVariants as allocWritten
+use Rattle.rate.specs.declared.AllocWrote.TheVariants as alloc_written
 use Rattle.rate.specs.Question.{Lists, no_lists}
 use Rattle.rate.specs.Answer.{after_write, writing}
 use Rattle.trip_theorem.specs.Calls.{Symbol, Tells, value_count, tells_r, tells_w}
@@ -79,7 +79,7 @@ module _ (q : AllocNumbers) (offsets caps : List ℤ) (h : Wishes) (bytes : List
   module _ (w : Writer) (new : start_of (length bytes) ≡ done w) where
     module _ (v : Wr) (zs : List Symbol) (ts : List Tells) (writes : write_all ys (wr w bytes) ≡ write_row v zs ts) where
       -- after the close the two outcomes are the same
-      close-agrees : (y : WrittenAllocation) (m : Lists) (filled : List ℕ) → writing q h offsets caps v no_lists ≡ after_write (allocWritten.Done y) m filled
+      close-agrees : (y : WrittenAllocation) (m : Lists) (filled : List ℕ) → writing q h offsets caps v no_lists ≡ after_write (alloc_written.Done y) m filled
           → (r : Said Writer) (s : List ℕ) → closing (wr y.next filled) ≡ record { said = r; bytes = s }
           → close_outcome (agrees q offsets caps ys w (write_row v zs ts) y m) r s ≡ close_outcome (λ s. true) r s
       close-agrees y m filled allots (refused n) s e = refl

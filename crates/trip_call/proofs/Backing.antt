@@ -12,7 +12,7 @@ use Rattle.rate.specs.declared.AllocNumbers.{AllocNumbers}
 use Rattle.rate.specs.declared.ReadAllocation.{ReadAllocation}
 use Rattle.rate.specs.declared.WrittenAllocation.{WrittenAllocation}
 use Rattle.rate.specs.declared.AllocRead.{AllocRead}
-use Rattle.rate.specs.declared.AllocRead.TheVariants as allocRead
+use Rattle.rate.specs.declared.AllocRead.TheVariants as alloc_read
 use Rattle.rate.specs.Question.{Lists, no_lists}
 use Rattle.rate.specs.Answer.{after_read, reading}
 use Rattle.trip_theorem.specs.Calls.{tells_r, tells_w}
@@ -31,14 +31,14 @@ use Rattle.trip_call.proofs.Joining.{pairs_are, row-differs, row_same}
 module _ (q : AllocNumbers) (offsets caps : List ℤ) (y : WrittenAllocation) (m : Lists) (s : List ℕ) (e : Reader) {r : AllocRead} (n : Lists)
     (p : after_read r n ≡ reading q offsets caps s e no_lists) where
   -- an allocation that was read is compared
-  pub shares-done : (x : ReadAllocation) {b : Bool} → r ≡ allocRead.Done x
+  pub shares-done : (x : ReadAllocation) {b : Bool} → r ≡ alloc_read.Done x
       → b ≡ (same_numbers y x && same_ints m.pulses n.pulses && same_ints m.fine n.fine && same_ints m.priorities n.priorities && same_tells
       (tells_w y.next) (tells_r x.next))
       → b ≡ shares_agree q offsets caps y m s e
   shares-done x h k = rw (← p, h) k
 
   -- a refused one does not agree
-  pub shares_no : {k : ℕ} → r ≡ allocRead.Refused k → false ≡ shares_agree q offsets caps y m s e
+  pub shares_no : {k : ℕ} → r ≡ alloc_read.Refused k → false ≡ shares_agree q offsets caps y m s e
   shares_no h = rw (← p, h)
 
 -- ---- the symbols, by the code's answer a, which left the bytes k; f is what it found before the first

@@ -11,7 +11,7 @@ use Rattle.rate.specs.declared.AllocNumbers.{AllocNumbers}
 use Rattle.rate.specs.declared.Wishes.{Wishes}
 use Rattle.rate.specs.declared.WrittenAllocation.{WrittenAllocation}
 use Rattle.rate.specs.declared.AllocWrote.{AllocWrote}
-use Rattle.rate.specs.declared.AllocWrote.TheVariants as allocWritten
+use Rattle.rate.specs.declared.AllocWrote.TheVariants as alloc_written
 use Rattle.rate.specs.Question.{Lists, no_lists}
 use Rattle.rate.specs.Answer.{after_write, writing}
 use Rattle.trip_theorem.specs.Calls.{Symbol}
@@ -30,14 +30,14 @@ module _ (q : AllocNumbers) (h : Wishes) (offsets caps : List ℤ) (v : Wr) {r :
     (e : after_write r m b ≡ writing q h offsets caps v no_lists)
     (reads : WrittenAllocation → Lists → List ℕ → Bool) where
   -- an accepted allocation: what comes after it
-  pub allot-done : (y : WrittenAllocation) {o : Outcome} → r ≡ allocWritten.Done y
+  pub allot-done : (y : WrittenAllocation) {o : Outcome} → r ≡ alloc_written.Done y
       → o ≡ close_outcome (reads y m) (closing (wr y.next b)).said (closing (wr y.next b)).bytes
       → o ≡ allot_outcome reads (writing q h offsets caps v no_lists).said (writing q h offsets caps v no_lists).lent
       (writing q h offsets caps v no_lists).bytes
   allot-done y p k = rw (← e, p) k
 
   -- a refused allocation ends the trip
-  pub allot-refused : {n : ℕ} → r ≡ allocWritten.Refused n
+  pub allot-refused : {n : ℕ} → r ≡ alloc_written.Refused n
       → outcome.Refused call.Allocation n ≡ allot_outcome reads (writing q h offsets caps v no_lists).said (writing q h offsets caps v no_lists).lent
       (writing q h offsets caps v no_lists).bytes
   allot-refused p = rw (← e, p)

@@ -5,7 +5,9 @@ use mathlib.Core.Bool.{Bool, true, false, cond, ◌&&◌}
 use mathlib.Core.List.{List}
 use native.Mathlib.Omega.{arith}
 use lib.Dec.{eqb}
+use Rattle.entcode.specs.Said.{Said}
 use Rattle.entdec.specs.declared.Reader.{Reader}
+use Rattle.entenc.specs.declared.Writer.{Writer}
 use Rattle.entenc.specs.Write.{Wr, wr}
 use Rattle.trip_theorem.specs.Calls.{WriteStep, ReadStep, tells_r, tells_w}
 use Rattle.trip_theorem.specs.Calls.WriteStep.{write_step, write_refused}
@@ -14,17 +16,31 @@ use Rattle.trip_call.specs.declared.given.Given.{Given}
 use Rattle.trip_call.specs.declared.writes.WrittenCount.{WrittenCount}
 use Rattle.trip_call.specs.declared.writes.SymbolWrote.{SymbolWrote}
 use Rattle.trip_call.specs.declared.writes.SymbolWrote.TheVariants as wrote
+use Rattle.trip_call.specs.declared.reads.ReadCount.{ReadCount}
+use Rattle.trip_call.specs.declared.reads.SymbolRead.TheVariants as read
 use Rattle.trip_call.specs.declared.rows.Pair.{Pair}
 use Rattle.trip_call.specs.declared.rows.Pairs.{Pairs as PairsAnswer}
 use Rattle.trip_call.specs.declared.rows.Pairs.TheVariants as pairs
 use Rattle.trip_call.specs.Given.{given_at, symbol_of}
 use Rattle.trip_call.specs.Steps.{write_step_of, write_symbol, read_symbol}
-use Rattle.trip_call.specs.Runs.{Pairs, AfterRow, pair_then, pair_from, pairs_of, row_then, row_from}
+use Rattle.trip_call.specs.Runs.{Pairs, AfterRow, pair_then, pair_from, pair_of, pairs_of, row_then, row_from}
 use Rattle.trip_call.specs.Runs.AfterRow.{after_row, row_refused}
 use Rattle.trip_call.specs.Runs.Pairs.{same, differs}
-use Rattle.trip_call.specs.Same.{same_tells}
+use Rattle.trip_call.specs.Same.{same_tells, same_tell}
 
 -- ---- one symbol's answers
+
+-- the comparisons of tell and of tell_frac, as one
+pub tells-same : (w : Writer) (d : Reader) {a b p q : Said ℕ} {x y : Bool} → a ≡ (tells_w w).bits → b ≡ (tells_r d).bits → p ≡ (tells_w w).eighths
+    → q ≡ (tells_r d).eighths
+    → x ≡ same_tell a b → y ≡ same_tell p q → x && y ≡ same_tells (tells_w w) (tells_r d)
+tells-same w d e₁ e₂ e₃ e₄ h k = rw (h, k, e₁, e₂, e₃, e₄)
+
+module _ (x : WrittenCount) (y : ReadCount) {t : Bool} (p : t ≡ same_tells (tells_w x.next) (tells_r y.next)) where
+  -- a symbol that agrees
+  pub pair_yes : eqb x.count y.count && t ≡ true
+      → pairs.Same (record { writer = x.next; reader = y.next }) ≡ pair_of (wrote.Done x) (read.Done y)
+  pair_yes e = rw (← p, e)
 
 -- ---- rows
 

@@ -8,7 +8,7 @@ use borrow.Author.Tests.{eq-eqb, ne_eqb}
 use Rattle.entcode.specs.Said.{Said, answer}
 use Rattle.entcode.specs.Said.Said.{done, refused}
 use Rattle.entcode.specs.Sym.{Shape}
-use Rattle.entcode.specs.Sym.Shape.{bit as bitShape, table as tableShape, uint as uniformShape, raw as rawShape}
+use Rattle.entcode.specs.Sym.Shape.{bit as bit_shape, table as table_shape, uint as uniform_shape, raw as raw_shape}
 use Rattle.entdec.specs.declared.Reader.{Reader}
 use Rattle.entdec.specs.declared.ReadSymbol.{ReadSymbol}
 use Rattle.entdec.specs.Rule.{refusal_r}
@@ -16,7 +16,7 @@ use Rattle.entdec.specs.Symbols.{read_sym}
 use Rattle.entenc.specs.declared.Writer.{Writer}
 use Rattle.entenc.specs.Answer.{After, writing}
 use Rattle.entenc.specs.Write.{Wr}
-use Rattle.laplace.specs.Answer as laplaceCalls
+use Rattle.laplace.specs.Answer as laplace_calls
 use Rattle.laplace.specs.Model.{value_at}
 use Rattle.laplace.specs.declared.LapDone.{LapDone}
 use Rattle.laplace.specs.declared.LapSym.{LapSym}
@@ -94,7 +94,7 @@ abbrev left : Said Writer → List ℕ → After
 left r l = record { said = r; bytes = l }
 
 -- the same of a Laplace value
-abbrev lap_left : Said LapDone → List ℕ → laplaceCalls.After
+abbrev lap_left : Said LapDone → List ℕ → laplace_calls.After
 lap_left r l = record { said = r; bytes = l }
 
 -- a call that writes its value as it is
@@ -121,38 +121,38 @@ write-lap fs decay (refused n) l = refl
 
 module _ (g : Given) (w : Wr) {x : SymbolWrote} {l : List ℕ} where
   -- a uniform number was written as the definition has it
-  pub wrote-uniform : {r : Said Writer} → g.kind ≡ 2 → left r l ≡ writing (uniformShape g.first) g.count w → x ≡ symbol_wrote r g.count
+  pub wrote-uniform : {r : Said Writer} → g.kind ≡ 2 → left r l ≡ writing (uniform_shape g.first) g.count w → x ≡ symbol_wrote r g.count
       → write_step_of x l ≡ write_symbol (later_of g) w
   unfolding write_symbol write_call
-  wrote-uniform h e p = rw (later-uniform g h) (plain-is (uniformShape g.first) g.count w e p)
+  wrote-uniform h e p = rw (later-uniform g h) (plain-is (uniform_shape g.first) g.count w e p)
 
   -- raw bits were
-  pub wrote-raw : {r : Said Writer} → (g.kind ≡ 2 → ⊥) → g.kind ≡ 3 → left r l ≡ writing (rawShape g.first) g.count w → x ≡ symbol_wrote r g.count
+  pub wrote-raw : {r : Said Writer} → (g.kind ≡ 2 → ⊥) → g.kind ≡ 3 → left r l ≡ writing (raw_shape g.first) g.count w → x ≡ symbol_wrote r g.count
       → write_step_of x l ≡ write_symbol (later_of g) w
   unfolding write_symbol write_call
-  wrote-raw q h e p = rw (later-raw g q h) (plain-is (rawShape g.first) g.count w e p)
+  wrote-raw q h e p = rw (later-raw g q h) (plain-is (raw_shape g.first) g.count w e p)
 
   -- a Laplace value was
   pub wrote-laplace : {r : Said LapDone} (z : ℤ) → (g.kind ≡ 2 → ⊥) → (g.kind ≡ 3 → ⊥) → z ≡ value_at g.count
-      → lap_left r l ≡ laplaceCalls.writing g.first g.second z w → x ≡ lap_symbol_wrote r → write_step_of x l ≡ write_symbol (later_of g) w
+      → lap_left r l ≡ laplace_calls.writing g.first g.second z w → x ≡ lap_symbol_wrote r → write_step_of x l ≡ write_symbol (later_of g) w
   unfolding write_symbol write_call
   wrote-laplace {r} z q h v e p =
       rw (later-laplace g q h, ← v)
       (ap (λ (y : SymbolWrote). write_step_of y l) p ∙ write-lap g.first g.second r l
-      ∙ ap (λ (a : laplaceCalls.After). count_written (laplace g.first g.second) (lap_write_step a.said a.bytes)) e)
+      ∙ ap (λ (a : laplace_calls.After). count_written (laplace g.first g.second) (lap_write_step a.said a.bytes)) e)
 
   module _ (t : List ℕ) where
     -- a bit was
-    pub wrote-bit : {r : Said Writer} → g.kind ≡ 0 → left r l ≡ writing (bitShape g.first) g.count w → x ≡ symbol_wrote r g.count
+    pub wrote-bit : {r : Said Writer} → g.kind ≡ 0 → left r l ≡ writing (bit_shape g.first) g.count w → x ≡ symbol_wrote r g.count
         → write_step_of x l ≡ write_symbol (symbol_of g t) w
     unfolding write_symbol write_call
-    wrote-bit h e p = rw (of_bit g t h) (plain-is (bitShape g.first) g.count w e p)
+    wrote-bit h e p = rw (of_bit g t h) (plain-is (bit_shape g.first) g.count w e p)
 
     -- a table's symbol was
     pub wrote-table : {r : Said Writer} {u : List ℕ} → (g.kind ≡ 0 → ⊥) → g.kind ≡ 1 → u ≡ take g.third (drop g.second t)
-        → left r l ≡ writing (tableShape u g.first) g.count w → x ≡ symbol_wrote r g.count → write_step_of x l ≡ write_symbol (symbol_of g t) w
+        → left r l ≡ writing (table_shape u g.first) g.count w → x ≡ symbol_wrote r g.count → write_step_of x l ≡ write_symbol (symbol_of g t) w
     unfolding write_symbol write_call
-    wrote-table {u = u} q h i e p = rw (of_table g t q h, ← i) (plain-is (tableShape u g.first) g.count w e p)
+    wrote-table {u = u} q h i e p = rw (of_table g t q h, ← i) (plain-is (table_shape u g.first) g.count w e p)
 
 -- ---- read
 
@@ -178,21 +178,21 @@ read-step-lap fs decay (refused n) = refl
 
 module _ (g : Given) (s : List ℕ) (d : Reader) {x : SymbolRead} where
   -- a uniform number was read as the definition has it
-  pub read-uniform : {r : Said ReadSymbol} → g.kind ≡ 2 → r ≡ answer (refusal_r (uniformShape g.first) s d) (read_sym (uniformShape g.first) s d)
+  pub read-uniform : {r : Said ReadSymbol} → g.kind ≡ 2 → r ≡ answer (refusal_r (uniform_shape g.first) s d) (read_sym (uniform_shape g.first) s d)
       → x ≡ symbol_read r
       → read_step_of x ≡ read_symbol (later_of g) s d
   unfolding read_symbol read_call
-  read-uniform h e p = rw (later-uniform g h) (read_is (uniformShape g.first) s d e p)
+  read-uniform h e p = rw (later-uniform g h) (read_is (uniform_shape g.first) s d e p)
 
   -- raw bits were
-  pub read-raw : {r : Said ReadSymbol} → (g.kind ≡ 2 → ⊥) → g.kind ≡ 3 → r ≡ answer (refusal_r (rawShape g.first) s d) (read_sym (rawShape g.first) s d)
+  pub read-raw : {r : Said ReadSymbol} → (g.kind ≡ 2 → ⊥) → g.kind ≡ 3 → r ≡ answer (refusal_r (raw_shape g.first) s d) (read_sym (raw_shape g.first) s d)
       → x ≡ symbol_read r
       → read_step_of x ≡ read_symbol (later_of g) s d
   unfolding read_symbol read_call
-  read-raw q h e p = rw (later-raw g q h) (read_is (rawShape g.first) s d e p)
+  read-raw q h e p = rw (later-raw g q h) (read_is (raw_shape g.first) s d e p)
 
   -- a Laplace value was
-  pub read-laplace : {r : Said LapSym} → (g.kind ≡ 2 → ⊥) → (g.kind ≡ 3 → ⊥) → r ≡ laplaceCalls.reading g.first g.second s d → x ≡ lap_symbol_read r
+  pub read-laplace : {r : Said LapSym} → (g.kind ≡ 2 → ⊥) → (g.kind ≡ 3 → ⊥) → r ≡ laplace_calls.reading g.first g.second s d → x ≡ lap_symbol_read r
       → read_step_of x ≡ read_symbol (later_of g) s d
   unfolding read_symbol read_call
   read-laplace {r} q h e p =
@@ -201,16 +201,16 @@ module _ (g : Given) (s : List ℕ) (d : Reader) {x : SymbolRead} where
 
   module _ (t : List ℕ) where
     -- a bit was
-    pub read-bit : {r : Said ReadSymbol} → g.kind ≡ 0 → r ≡ answer (refusal_r (bitShape g.first) s d) (read_sym (bitShape g.first) s d) → x ≡ symbol_read r
+    pub read-bit : {r : Said ReadSymbol} → g.kind ≡ 0 → r ≡ answer (refusal_r (bit_shape g.first) s d) (read_sym (bit_shape g.first) s d) → x ≡ symbol_read r
         → read_step_of x ≡ read_symbol (symbol_of g t) s d
     unfolding read_symbol read_call
-    read-bit h e p = rw (of_bit g t h) (read_is (bitShape g.first) s d e p)
+    read-bit h e p = rw (of_bit g t h) (read_is (bit_shape g.first) s d e p)
 
     -- a table's symbol was
     pub read_table : {r : Said ReadSymbol} {u : List ℕ} → (g.kind ≡ 0 → ⊥) → g.kind ≡ 1 → u ≡ take g.third (drop g.second t)
-        → r ≡ answer (refusal_r (tableShape u g.first) s d) (read_sym (tableShape u g.first) s d) → x ≡ symbol_read r
+        → r ≡ answer (refusal_r (table_shape u g.first) s d) (read_sym (table_shape u g.first) s d) → x ≡ symbol_read r
         → read_step_of x ≡ read_symbol (symbol_of g t) s d
     unfolding read_symbol read_call
-    read_table {u = u} q h i e p = rw (of_table g t q h, ← i) (read_is (tableShape u g.first) s d e p)
+    read_table {u = u} q h i e p = rw (of_table g t q h, ← i) (read_is (table_shape u g.first) s d e p)
 
 -- ---- the Laplace answers

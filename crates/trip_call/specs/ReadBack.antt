@@ -3,7 +3,7 @@ use Rattle.std.specs.Prelude.{ℕ, Bool, false, ◌&&◌, List, ℤ}
 use Rattle.entcode.specs.Said.{Said}
 use Rattle.entcode.specs.Said.Said.{done, refused}
 use Rattle.entdec.specs.declared.Reader.{Reader}
-use Rattle.entdec.specs.Answer.{start_of as readerOver}
+use Rattle.entdec.specs.Answer.{start_of as reader_over}
 use Rattle.entenc.specs.declared.Writer.{Writer}
 use Rattle.rate.specs.declared.AllocNumbers.{AllocNumbers}
 use Rattle.rate.specs.declared.ReadAllocation.{ReadAllocation}
@@ -42,4 +42,4 @@ module _ (q : AllocNumbers) (offsets caps : List ℤ) (y : WrittenAllocation) (m
 
 -- The reader of the packet s agrees: w is the new writer, a the row as it was written, y and m the allocation
 abbrev pub agrees : AllocNumbers → List ℤ → List ℤ → List Symbol → Writer → WriteRow → WrittenAllocation → Lists → List ℕ → Bool
-agrees q offsets caps ys w a y m s = reader_agrees q offsets caps y m ys w a s (readerOver s)
+agrees q offsets caps ys w a y m s = reader_agrees q offsets caps y m ys w a s (reader_over s)

@@ -12,11 +12,11 @@ use Rattle.entcode.specs.Counts.{tell_ok}
 use Rattle.entcode.specs.Said.{answer, lent_after}
 use Rattle.entcode.specs.Said.Said.{done, refused}
 use Rattle.entcode.proofs.Refusals.{passed}
-use Rattle.entdec.specs.Answer.{start_of as readerOver}
+use Rattle.entdec.specs.Answer.{start_of as reader_over}
 use Rattle.entdec.specs.Read.{fresh_reader}
 use Rattle.entenc.specs.declared.Writer.{Writer}
 use Rattle.entenc.specs.declared.WriteAnswer.TheVariants.{Done}
-use Rattle.entenc.specs.Answer.{start_of as writerOver, After, after, answer_w, closing}
+use Rattle.entenc.specs.Answer.{start_of as writer_over, After, after, answer_w, closing}
 use Rattle.entenc.specs.Close.{close_w}
 use Rattle.entenc.specs.Rule.{writer_ok, write_refusal, refusal_close}
 use Rattle.entenc.specs.Write.{Wr, fresh_writer}
@@ -27,7 +27,7 @@ use Rattle.rate_bands.proofs.Frames.{in_ok}
 use Rattle.rate.specs.declared.AllocNumbers.{AllocNumbers}
 use Rattle.rate.specs.declared.Wishes.{Wishes}
 use Rattle.rate.specs.declared.WrittenAllocation.{WrittenAllocation}
-use Rattle.rate.specs.declared.AllocWrote.TheVariants as allocWritten
+use Rattle.rate.specs.declared.AllocWrote.TheVariants as alloc_written
 use Rattle.rate.specs.Question.{Lists, alloc_input, entries_ok, numbers_ok, refusal_write, sized}
 use Rattle.rate.specs.Answer.{AfterWrite, after_write, answer_written, lists_of, write_wished, writing, written_figures}
 use Rattle.rate.proofs.Accepts.{counts-ok, lists-ok}
@@ -41,11 +41,11 @@ started-by n w true t e = (leb-true n 1275 t, cc)
 started-by n w false t e = let z : ◌≡◌ {A = ℕ} 0 1 = cc in absurd (omega arith)
 
 -- a new writer is fresh, over at most 1,275 bytes
-pub new-writer : (n : ℕ) (w : Writer) → writerOver n ≡ done w → (n ≤ 1275) × (w ≡ fresh_writer n)
+pub new-writer : (n : ℕ) (w : Writer) → writer_over n ≡ done w → (n ≤ 1275) × (w ≡ fresh_writer n)
 new-writer n w e = started-by n w (leb n 1275) refl e
 
 -- at most 1,275 bytes have a new reader, and it is fresh
-pub new-reader : (s : List ℕ) → length s ≤ 1275 → readerOver s ≡ done (fresh_reader s)
+pub new-reader : (s : List ℕ) → length s ≤ 1275 → reader_over s ≡ done (fresh_reader s)
 unfolding answer
 new-reader s h = rw (le-leb (length s) 1275 h)
 
@@ -92,7 +92,7 @@ record Gave (n : ℕ) (a : AllocIn) (o : AllocOut × Wr) (l : Lists) (y : Writte
 
 -- an accepted allocation has number 0, and its figures, lists and bytes are the definition's
 gave : (n : ℕ) (a : AllocIn) (o : AllocOut × Wr) (l : Lists) (w : Wr) (y : WrittenAllocation) (m : Lists) (b : List ℕ)
-    → answer_written n a o l w ≡ after_write (allocWritten.Done y) m b → Gave n a o l y m b
+    → answer_written n a o l w ≡ after_write (alloc_written.Done y) m b → Gave n a o l y m b
 unfolding answer_written answer lent_after
 gave zero a o l w y m b e =
     let p : done (written_figures o) ≡ done y = ap (λ (x : AfterWrite). x.said) e in
@@ -118,7 +118,7 @@ pub record Allotted (q : AllocNumbers) (h : Wishes) (offsets caps : List ℤ) (w
 
 -- every accepted allocation is one
 pub allotted : (q : AllocNumbers) (h : Wishes) (offsets caps : List ℤ) (w : Wr) (l : Lists) (y : WrittenAllocation) (m : Lists) (b : List ℕ)
-    → writing q h offsets caps w l ≡ after_write (allocWritten.Done y) m b → Allotted q h offsets caps w l y m b
+    → writing q h offsets caps w l ≡ after_write (alloc_written.Done y) m b → Allotted q h offsets caps w l y m b
 unfolding refusal_write write_refusal
 allotted q h offsets caps w l y m b e =
     let g = gave (refusal_write q offsets caps l h w) (alloc_input q offsets caps) (write_wished (alloc_input q offsets caps) h w) l w y m b e in

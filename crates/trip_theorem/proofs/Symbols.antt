@@ -12,7 +12,7 @@ use Rattle.entcode.specs.Counts.{tell_ok}
 use Rattle.entcode.specs.Refusal.{refusal}
 use Rattle.entcode.specs.Said.{answer, lent_after}
 use Rattle.entcode.specs.Sym.{Shape, Sym, sym_of, adjust, length_ok, shape_ok, list_ok}
-use Rattle.entcode.specs.Sym.Shape.{bit as bitShape, table as tableShape, uint as uniformShape, raw as rawShape}
+use Rattle.entcode.specs.Sym.Shape.{bit as bit_shape, table as table_shape, uint as uniform_shape, raw as raw_shape}
 use Rattle.entdec.specs.declared.Reader.{Reader}
 use Rattle.entdec.specs.declared.ReadSymbol.{ReadSymbol}
 use Rattle.entdec.specs.Symbols.{read_sym}
@@ -25,7 +25,7 @@ use Rattle.entenc.specs.Rule.{writer_ok, refusal_w}
 use Rattle.entenc.proofs.Taken.{taken}
 use Rattle.laplace.specs.declared.LapSym.{LapSym}
 use Rattle.laplace.specs.Model.{value_at}
-use Rattle.laplace.specs.Answer.{lap, answer_w as answerLap}
+use Rattle.laplace.specs.Answer.{lap, answer_w as answer_lap}
 use Rattle.laplace.proofs.Known.{known_parts}
 use Rattle.laplace.proofs.Lawful.{lap-cut, lap_finds}
 use Rattle.trip_symbols.specs.Lawful.{LawfulShape}
@@ -53,10 +53,10 @@ use Rattle.trip_theorem.specs.Calls.ReadStep.{read_step}
 
 -- the symbol of the coder that a kind is coded as
 abbrev pub shape_of : Kind → Shape
-shape_of (bit logp) = bitShape logp
-shape_of (table t ftb) = tableShape t ftb
-shape_of (uniform ft) = uniformShape ft
-shape_of (raw n) = rawShape n
+shape_of (bit logp) = bit_shape logp
+shape_of (table t ftb) = table_shape t ftb
+shape_of (uniform ft) = uniform_shape ft
+shape_of (raw n) = raw_shape n
 shape_of (laplace fs decay) = lap fs decay
 
 -- the value of a count
@@ -92,7 +92,7 @@ gave-step zero v v' w u w' e = record { none = refl; value = cc; next = cc }
 gave-step (suc n) v v' w u w' e = let z : ◌≡◌ {A = ℕ} 0 1 = cc in absurd (omega arith)
 
 -- an accepted write of a Laplace value has number 0
-gave-lap : (n : ℕ) (v v' : ℤ) (w u w' : Wr) → lap_write_step (answerLap n v w u).said (answerLap n v w u).bytes ≡ write_step v' w' → Gave ℤ n v v' u w'
+gave-lap : (n : ℕ) (v v' : ℤ) (w u w' : Wr) → lap_write_step (answer_lap n v w u).said (answer_lap n v w u).bytes ≡ write_step v' w' → Gave ℤ n v v' u w'
 unfolding answer lent_after
 gave-lap zero v v' w u w' e = record { none = refl; value = cc; next = cc }
 gave-lap (suc n) v v' w u w' e = let z : ◌≡◌ {A = ℕ} 0 1 = cc in absurd (omega arith)
@@ -134,10 +134,10 @@ read-step-lap n y v z e = rw (z, e)
 pub read-step-at : (k : Kind) (s : List ℕ) (d : Reader) (c : ℕ) → refusal_r (shape_of k) s d ≡ 0 → (read_sym (shape_of k) s d).value ≡ c
     → read_call k s d ≡ read_step (value_by k c) (read_sym (shape_of k) s d).next
 unfolding read_call
-read-step-at (bit logp) s d c z e = read-step-by _ (read_sym (bitShape logp) s d) c z e
-read-step-at (table t ftb) s d c z e = read-step-by _ (read_sym (tableShape t ftb) s d) c z e
-read-step-at (uniform ft) s d c z e = read-step-by _ (read_sym (uniformShape ft) s d) c z e
-read-step-at (raw n) s d c z e = read-step-by _ (read_sym (rawShape n) s d) c z e
+read-step-at (bit logp) s d c z e = read-step-by _ (read_sym (bit_shape logp) s d) c z e
+read-step-at (table t ftb) s d c z e = read-step-by _ (read_sym (table_shape t ftb) s d) c z e
+read-step-at (uniform ft) s d c z e = read-step-by _ (read_sym (uniform_shape ft) s d) c z e
+read-step-at (raw n) s d c z e = read-step-by _ (read_sym (raw_shape n) s d) c z e
 read-step-at (laplace fs decay) s d c z e = read-step-lap _ _ (value_at c) z (ap value_at e)
 
 -- a symbol that was accepted, read back

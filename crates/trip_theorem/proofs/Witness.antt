@@ -38,7 +38,7 @@ use Rattle.rate_spec.specs.Alloc.{
   band_of,
   first_round,
   dual_asked,
-  left_of as leftOfAlloc,
+  left_of as left_of_alloc,
   finish,
   ask_intensity,
 }
@@ -55,10 +55,10 @@ use Rattle.trip_theorem.specs.Rows.{write_all}
 use Rattle.trip_theorem.specs.Example.{example_bytes, example_lists, example_symbols, example_numbers, example_boosts, example_caps, example_wishes}
 use Rattle.entenc.specs.declared.Writer.{Writer}
 use Rattle.entenc.specs.declared.WriteAnswer.TheVariants as answered
-use Rattle.entenc.specs.Answer.{start_of as writerOver, After, after, closing}
+use Rattle.entenc.specs.Answer.{start_of as writer_over, After, after, closing}
 use Rattle.entenc.specs.Write.{Wr, fresh_writer, wr}
 use Rattle.rate.specs.declared.WrittenAllocation.{WrittenAllocation}
-use Rattle.rate.specs.declared.AllocWrote.TheVariants as allocWritten
+use Rattle.rate.specs.declared.AllocWrote.TheVariants as alloc_written
 use Rattle.rate_spec.specs.Types.{AllocOut}
 use Rattle.rate.specs.Answer.{AfterWrite, after_write, answer_written, writing, written_numbers}
 use Rattle.trip_theorem.specs.Calls.{Symbol, Tells}
@@ -129,14 +129,14 @@ shares-is (done y) e = refl
 shares-is (refused n) e = absurd (true≢false (sym e))
 
 -- and its lists and bytes
-written_is : (x : AfterWrite) → allotted x.said ≡ true → x ≡ after_write (allocWritten.Done (shares_in x.said)) x.lent x.bytes
+written_is : (x : AfterWrite) → allotted x.said ≡ true → x ≡ after_write (alloc_written.Done (shares_in x.said)) x.lent x.bytes
 written_is x e = ap (λ (r : Said WrittenAllocation). record { said = r; lent = x.lent; bytes = x.bytes }) (shares-is x.said e)
 
 -- ---- the calls of the example
 
 -- the new writer
 unfoldable example_first : Said Writer
-example_first = writerOver (length example_bytes)
+example_first = writer_over (length example_bytes)
 
 -- the symbols
 unfoldable example_row : WriteRow
@@ -173,7 +173,7 @@ unfolding every fill over_places sum_of edges edge width energy_model zero_at de
     close_out close_w writer_ok write_refusal refusal_w refusal_close write_pieces shift_w shifts_w cut_w bits_w zeroed finished put_front put_end
     emit flushed left_of walk
     span_of value_at among pair_known decay_rows decays_in decays_for span_z skipped degrees spread split_band carried band_of first_round dual_asked
-    leftOfAlloc finish
+    left_of_alloc finish
     ask_intensity ask_dual alloc_from alloc depth stops deciding skip_reserve stereo_fits intensity_reserve dual_reserve budget last_boost skip_start
     width_up_to
     reserve_next top_bits asks paid keep dropped flag_of skip with_offset wanted extra spill fine_of prio_of split_of halve reached floored

@@ -6,7 +6,7 @@ use Rattle.entcode.specs.Said.{Said, answer}
 use Rattle.entcode.specs.Said.Said.{done, refused}
 use Rattle.entcode.specs.Tell.{tell_of, tell_frac_of}
 use Rattle.entcode.specs.Sym.{Shape}
-use Rattle.entcode.specs.Sym.Shape.{bit as bitShape, table as tableShape, uint as uniformShape, raw as rawShape}
+use Rattle.entcode.specs.Sym.Shape.{bit as bit_shape, table as table_shape, uint as uniform_shape, raw as raw_shape}
 use Rattle.entdec.specs.declared.Reader.{Reader}
 use Rattle.entdec.specs.declared.ReadSymbol.{ReadSymbol}
 use Rattle.entdec.specs.Symbols.{read_sym}
@@ -17,7 +17,7 @@ use Rattle.entenc.specs.Answer.{writing}
 use Rattle.entenc.specs.Rule.{writer_ok}
 use Rattle.laplace.specs.declared.LapSym.{LapSym}
 use Rattle.laplace.specs.declared.LapDone.{LapDone}
-use Rattle.laplace.specs.Answer as laplaceCalls
+use Rattle.laplace.specs.Answer as laplace_calls
 use Rattle.laplace.specs.Model.{code_of}
 
 -- a kind, with what a reader has to know of it: a bit's log probability, a table and its log of places, how many values a uniform number has,
@@ -77,11 +77,11 @@ write_step_as h v w = write_step_by v (writing h v w).said (writing h v w).bytes
 
 -- Writer::bit_logp, icdf, uint and bits, and ec_laplace_encode
 unfoldable pub write_call : (k : Kind) → Value k → Wr → WriteStep (Value k)
-write_call (bit logp) v w = write_step_as (bitShape logp) v w
-write_call (table t ftb) v w = write_step_as (tableShape t ftb) v w
-write_call (uniform ft) v w = write_step_as (uniformShape ft) v w
-write_call (raw n) v w = write_step_as (rawShape n) v w
-write_call (laplace fs decay) z w = lap_write_step (laplaceCalls.writing fs decay z w).said (laplaceCalls.writing fs decay z w).bytes
+write_call (bit logp) v w = write_step_as (bit_shape logp) v w
+write_call (table t ftb) v w = write_step_as (table_shape t ftb) v w
+write_call (uniform ft) v w = write_step_as (uniform_shape ft) v w
+write_call (raw n) v w = write_step_as (raw_shape n) v w
+write_call (laplace fs decay) z w = lap_write_step (laplace_calls.writing fs decay z w).said (laplace_calls.writing fs decay z w).bytes
 
 -- ---- reading
 
@@ -106,11 +106,11 @@ read_step_as h s d = read_step_by (answer (refusal_r h s d) (read_sym h s d))
 
 -- Reader::bit_logp, icdf, uint and bits, and ec_laplace_decode
 unfoldable pub read_call : (k : Kind) → List ℕ → Reader → ReadStep (Value k)
-read_call (bit logp) s d = read_step_as (bitShape logp) s d
-read_call (table t ftb) s d = read_step_as (tableShape t ftb) s d
-read_call (uniform ft) s d = read_step_as (uniformShape ft) s d
-read_call (raw n) s d = read_step_as (rawShape n) s d
-read_call (laplace fs decay) s d = lap_read_step (laplaceCalls.reading fs decay s d)
+read_call (bit logp) s d = read_step_as (bit_shape logp) s d
+read_call (table t ftb) s d = read_step_as (table_shape t ftb) s d
+read_call (uniform ft) s d = read_step_as (uniform_shape ft) s d
+read_call (raw n) s d = read_step_as (raw_shape n) s d
+read_call (laplace fs decay) s d = lap_read_step (laplace_calls.reading fs decay s d)
 
 -- ---- how many bits are used
 

@@ -4,10 +4,10 @@ use Rattle.std.specs.Prelude.{ℕ, ◌≤◌, ◌<◌, ◌≡◌, false, List, �
 use Rattle.laws.specs.Lists.{Bytes}
 use Rattle.entcode.specs.Said.Said.{done}
 use Rattle.entdec.specs.declared.Reader.{Reader}
-use Rattle.entdec.specs.Answer.{start_of as readerOver}
+use Rattle.entdec.specs.Answer.{start_of as reader_over}
 use Rattle.entenc.specs.declared.Writer.{Writer}
 use Rattle.entenc.specs.declared.WriteAnswer.TheVariants.{Done}
-use Rattle.entenc.specs.Answer.{start_of as writerOver, after, closing}
+use Rattle.entenc.specs.Answer.{start_of as writer_over, after, closing}
 use Rattle.entenc.specs.Write.{Wr, wr}
 use Rattle.rate_spec.specs.Types.{AllocIn, AllocOut}
 use Rattle.rate_spec.specs.Answers.{alloc_of_flags}
@@ -17,8 +17,8 @@ use Rattle.rate.specs.declared.AllocNumbers.{AllocNumbers}
 use Rattle.rate.specs.declared.Wishes.{Wishes}
 use Rattle.rate.specs.declared.ReadAllocation.{ReadAllocation}
 use Rattle.rate.specs.declared.WrittenAllocation.{WrittenAllocation}
-use Rattle.rate.specs.declared.AllocRead.TheVariants as allocRead
-use Rattle.rate.specs.declared.AllocWrote.TheVariants as allocWritten
+use Rattle.rate.specs.declared.AllocRead.TheVariants as alloc_read
+use Rattle.rate.specs.declared.AllocWrote.TheVariants as alloc_written
 use Rattle.rate.specs.Question.{Lists, alloc_input}
 use Rattle.rate.specs.Answer.{after_read, after_write, lists_of, read_figures, reading, write_wished, writing, written_figures}
 use Rattle.trip_theorem.specs.Calls.{Symbol, Tells, tells_r, tells_w}
@@ -42,7 +42,7 @@ module _ (bytes : List ℕ) (ys : List Symbol) (q : AllocNumbers) (offsets caps 
   pub record Sent : Type 0 where
     -- a new writer over the bytes
     pub first : Writer
-    pub new : writerOver (length bytes) ≡ done first
+    pub new : writer_over (length bytes) ≡ done first
     -- the symbols were accepted: zs as they count as written, ts what the writer tells after each
     pub row : Wr
     pub zs : List Symbol
@@ -52,7 +52,7 @@ module _ (bytes : List ℕ) (ys : List Symbol) (q : AllocNumbers) (offsets caps 
     pub shares : WrittenAllocation
     pub lists : Lists
     pub filled : List ℕ
-    pub allots : writing q h offsets caps row l ≡ after_write (allocWritten.Done shares) lists filled
+    pub allots : writing q h offsets caps row l ≡ after_write (alloc_written.Done shares) lists filled
     -- close was accepted and reported no error
     pub last : Writer
     pub packet : List ℕ
@@ -65,7 +65,7 @@ module _ (bytes : List ℕ) (ys : List Symbol) (q : AllocNumbers) (offsets caps 
     pub record Agreed : Type 0 where
       -- a new reader of those bytes, which has the new writer's storage and tells what that tells
       pub first : Reader
-      pub new : readerOver k.packet ≡ done first
+      pub new : reader_over k.packet ≡ done first
       pub storage : first.storage ≡ k.first.sink.storage
       pub begins : tells_r first ≡ tells_w k.first
       -- it accepts and reads the same symbols, and tells the same after each
@@ -74,7 +74,7 @@ module _ (bytes : List ℕ) (ys : List Symbol) (q : AllocNumbers) (offsets caps 
       -- it accepts the allocation with the same shared inputs
       pub shares : ReadAllocation
       pub lists : Lists
-      pub allots : reading q offsets caps k.packet row m ≡ after_read (allocRead.Done shares) lists
+      pub allots : reading q offsets caps k.packet row m ≡ after_read (alloc_read.Done shares) lists
       -- and gets the same
       pub coded : shares.coded ≡ k.shares.coded
       pub balance : shares.balance ≡ k.shares.balance
@@ -112,7 +112,7 @@ module _ (bytes : List ℕ) (ys : List Symbol) (q : AllocNumbers) (offsets caps 
     pub shares : WrittenAllocation
     pub lists : Lists
     pub filled : List ℕ
-    pub allots : writing q g offsets caps k.row m ≡ after_write (allocWritten.Done shares) lists filled
+    pub allots : writing q g offsets caps k.row m ≡ after_write (alloc_written.Done shares) lists filled
     pub same_writer : shares.next ≡ k.shares.next
     pub same_bytes : filled ≡ k.filled
 
@@ -141,7 +141,7 @@ module _ (bytes : List ℕ) (ys : List Symbol) where
   -- a new writer, the symbols and the close were accepted
   pub record RowSent : Type 0 where
     pub first : Writer
-    pub new : writerOver (length bytes) ≡ done first
+    pub new : writer_over (length bytes) ≡ done first
     pub row : Wr
     pub zs : List Symbol
     pub ts : List Tells
@@ -155,7 +155,7 @@ module _ (bytes : List ℕ) (ys : List Symbol) where
     -- a new reader of the packet reads the same symbols, tells the same after each, and reports no error
     pub record RowAgreed : Type 0 where
       pub first : Reader
-      pub new : readerOver k.packet ≡ done first
+      pub new : reader_over k.packet ≡ done first
       pub storage : first.storage ≡ k.first.sink.storage
       pub begins : tells_r first ≡ tells_w k.first
       pub row : Reader

@@ -47,8 +47,7 @@ start_is c =
     rw (to_z-of_z c.ranges.start) at c.place_of-from.ensures
 
 end_is : (c : After-place_of-to) →
-    let start = c in
-    c.place_of-to.result ≡ clip start.args.end
+    c.place_of-to.result ≡ clip c.args.end
 end_is c =
     rw (to_z-of_z c.ranges.end) at c.place_of-to.ensures
 

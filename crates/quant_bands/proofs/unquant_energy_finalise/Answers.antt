@@ -42,14 +42,12 @@ start_is : (c : After-place_of-from) → c.place_of-from.result ≡ clip c.args.
 start_is c = rw (to_z-of_z c.ranges.start) at c.place_of-from.ensures
 
 end_is : (c : After-place_of-to) →
-    let start = c in
-    c.place_of-to.result ≡ clip start.args.end
+    c.place_of-to.result ≡ clip c.args.end
 end_is c =
     rw (to_z-of_z c.ranges.end) at c.place_of-to.ensures
 
 left_is : (c : After-clipped-bits) →
-    let start = c in
-    c.clipped-bits.result ≡ clip start.args.left
+    c.clipped-bits.result ≡ clip c.args.left
 left_is c =
     rw (to_z-of_z c.ranges.left) at c.clipped-bits.ensures.0
 

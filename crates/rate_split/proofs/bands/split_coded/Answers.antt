@@ -1,6 +1,6 @@
 -- `rate_split::bands::split_coded`: the loop has filled the lists up to j, and the balance is what reaches band j. Assumes nothing.
 use Prim.Native.Nat.{◌<◌}
-use mathlib.Core.Path.{ap, ◌∙◌}
+use mathlib.Core.Path.{◌≡◌, ap, ◌∙◌}
 use native.Mathlib.Omega.{arith}
 use lib.IntN.{pos}
 use Rattle.laws.proofs.Lists.{fill_none, fill-up}
@@ -13,9 +13,8 @@ use Rattle.rate_split.proofs.bands.split_coded.Goals.{After-part_of-p}
 
 -- what part_of gives for the loop's band is that band's part
 part_at : (c : After-part_of-p) →
-    let l = c in
-    let a = l.args in
-    CodedPart a.f a.caps.now a.bits.now a.coded a.left a.intensity a.dual l.loop-j.j c.part_of-p.result
+    let a = c.args in
+    CodedPart a.f a.caps.now a.bits.now a.coded a.left a.intensity a.dual c.loop-j.j c.part_of-p.result
 part_at c =
     let a = c.args in
     let v = c.loop-j.invariant in
@@ -76,3 +75,9 @@ loop-j-preserved c =
       s.1 ∙ fill-up _ a.f.start c.loop-j.j a.fine.now v.0 v.5 (ap (λ (b : Band). pos b.fine) t.part-is),
       s.2 ∙ fill-up _ a.f.start c.loop-j.j a.prios.now v.0 v.6 (ap (λ (b : Band). pos b.prio) t.part-is),
     )
+
+pub returns : goal.returns
+returns c =
+    let v = c.loop-j.invariant in
+    let e : c.loop-j.j ≡ c.args.coded = omega arith in
+    (rw e at v.3, rw e at v.4, rw e at v.5, rw e at v.6)

@@ -2,7 +2,7 @@
 use Prim.Native.Nat.{◌+◌, ◌/◌}
 use native.Mathlib.Omega.{arith}
 use Rattle.rate_spec.specs.Trials.{vector}
-use Rattle.rate_trial.proofs.Halving.{search_count, search_found, search_over, search_under}
+use Rattle.rate_trial.proofs.Halving.{search_count, search_found, search_over, search_start, search_under}
 use Rattle.rate_trial.proofs.Points.{vector_ok, vector_on}
 use Rattle.rate_trial.proofs.search.vector_of.Goals as goal
 
@@ -44,3 +44,6 @@ returns c =
       omega arith,
       l.invariant.1.length-is,
     )
+
+pub loop-lo-init : goal.loop-lo-init
+loop-lo-init c = (search_start _ 4 0 11 (omega arith) (omega arith), record { length-is = c.requires.6 })
