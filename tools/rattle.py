@@ -235,10 +235,12 @@ def place_of(place):
 
 
 class Function:
-    """A function of a source: its type where it stands in an `impl`, its line, and its text with the contract."""
+    """A function of a source: its type where it stands in an `impl`, the trait where that is of one, its line, and its text with the contract. The type of
+    what a trait declares is the trait."""
 
-    def __init__(self, source, kind, name, line, public, exported, text):
-        self.source, self.kind, self.name, self.line, self.public, self.exported, self.text = source, kind, name, line, public, exported, text
+    def __init__(self, source, kind, trait, name, line, public, exported, text):
+        self.source, self.kind, self.trait, self.name, self.line, self.public = source, kind, trait, name, line, public
+        self.exported, self.text = exported, text
         # the paths of the lemmas and definitions that its attributes hand to tactics
         self.handed = []
         start = text.index("(")
@@ -262,26 +264,32 @@ class Function:
 
 
 class Source:
-    """An .rt file: its place in its crate (`a/b` is src/a/b.rt), what it takes from others, and its functions."""
+    """An .rt file: its place in its crate (`a/b` is src/a/b.rt), what it takes from others, its functions, and the texts of the ghost members of its traits
+    and `impl`s."""
 
     def __init__(self, crate, inside, text):
         self.crate, self.file = crate, f"crates/{crate}/src/{inside}.rt"
         self.module = [w for w in inside.split("/") if w not in ("mod", "lib", "main")]
         self.ghost, rest = uses(code_only(text), ghost=True)
-        # each name that is taken: its whole path, and the line
-        self.taken = {}
-        for m in re.finditer(r"^(?:pub )?use ([\w:]+?)(?:::\{([^}]*)\})?;", rest, re.M):
-            for name in re.findall(r"\w+", m.group(2)) if m.group(2) else [None]:
-                full = m.group(1).split("::") + ([name] if name else [])
+        # each name that is taken: its whole path, and the line; and those that are handed on, by `pub use`
+        self.taken, self.passed = {}, set()
+        for m in re.finditer(r"^(pub )?use ([\w:]+?)(?:::\{([^}]*)\})?;", rest, re.M):
+            for name in re.findall(r"\w+", m.group(3)) if m.group(3) else [None]:
+                full = m.group(2).split("::") + ([name] if name else [])
                 self.taken[full[-1]] = (full, line_of(rest, m.start()))
+                self.passed |= {full[-1]} if m.group(1) else set()
         self.code = re.sub(r"^(?:pub )?use [^;]*;", blank, rest, flags=re.M)
+        # what its types keep: the clauses of their ghost fields and members
+        kept = re.finditer(r"^ +(?:pub )?ghost \w+\s*[:=]\s*\{", self.code, re.M)
+        self.members = [self.code[m.end() - 1 : closing(self.code, m.end() - 1, "{}")] for m in kept]
         self.found = []
         # where quotes stood there are blanks: `extern "C" fn` is `extern     fn`
         heads = list(re.finditer(r"^( *)(pub )?(extern +)?fn (\w+)", self.code, re.M))
         for m, after in zip(heads, heads[1:] + [None]):
-            kind = re.findall(r"^impl(?:<[^>]*>)? (\w+)", self.code[: m.start()], re.M)[-1] if m.group(1) else None
+            around = re.findall(r"^(?:impl(?:<[^>]*>)?(?: (\w+)(?:<[^>]*>)? for)?|(?:pub )?trait) (\w+)", self.code[: m.start()], re.M)
+            trait, kind = around[-1] if m.group(1) else (None, None)
             text = self.code[m.start() : after.start() if after else len(self.code)]
-            self.found.append(Function(self, kind, m.group(4), line_of(self.code, m.start()), bool(m.group(2)), bool(m.group(3)), text))
+            self.found.append(Function(self, kind, trait, m.group(4), line_of(self.code, m.start()), bool(m.group(2)), bool(m.group(3)), text))
         # what attributes hand to tactics: those right above a function, those in its body, and, for all functions, those before the first
         for m in re.finditer(r"#!?\[tactic\(.*?\)\]", self.code, re.S):
             paths = [path.split("::") for part in re.findall(r"\b(?:using|unfolding)\(([^()]*)\)", m.group(0)) for path in re.findall(r"[^\s,]+", part)]
@@ -312,6 +320,7 @@ class Tree:
         self.modules = {(c, p, i.replace("/", ".")): Module(c, p, i.replace("/", "."), text) for (c, p, i), text in files.items() if p != "src"}
         self.sources = [Source(c, i, text) for (c, p, i), text in files.items() if p == "src"]
         self.functions, self.methods, self.of_types, self.links = {}, {}, {}, {}
+        self.traits = {name for s in self.sources for name in re.findall(r"^(?:pub )?trait (\w+)", s.code, re.M)}
         for f in (f for s in self.sources for f in s.found):
             if f.kind:
                 self.of_types.setdefault((f.kind, f.name), []).append(f)
@@ -319,6 +328,14 @@ class Tree:
                 self.functions[(f.source.crate, *f.source.module, f.name)] = f
             if f.is_method():
                 self.methods.setdefault(f.name, []).append(f)
+            # `x.into()` is a call of a `from`
+            if f.trait == "From":
+                self.methods.setdefault("into", []).append(f)
+        for s in self.sources:
+            for name in s.passed:
+                ways = [tuple(way) for way in s.ways(s.taken[name][0]) if tuple(way) in self.functions]
+                for way in ways[:1]:
+                    self.functions[(s.crate, *s.module, name)] = self.functions[way]
 
     def found(self, place):
         """The module of a path, and what follows it in the path."""
@@ -368,19 +385,28 @@ class Tree:
     def called(self, source, text):
         """The functions that a text of a source calls. Of a call by a dot the type is not known: every method of that name."""
         found = []
-        for m in re.finditer(r"(\.)?\b((?:\w+::)*)(\w+)(?=\s*\()", text):
+        for m in re.finditer(r"(\.)?\b((?:\w+::)*)(\w+)(?=(?:::<[^<>]*>)?\s*\()", text):
             path = m.group(2).split("::")[:-1] + [m.group(3)]
             if m.group(1):
                 found += self.methods.get(path[-1], [])
-            elif len(path) > 1 and path[-2][0].isupper():
-                found += self.of_types.get((path[-2], path[-1]), [])
+            elif len(path) > 1 and (path[-2][0].isupper() or tuple(path[-2:]) in self.of_types):
+                typed = self.of_types.get((path[-2], path[-1]), [])
+                # what a type has by a trait, the trait declares
+                found += typed + [g for f in typed if f.trait for g in self.of_types.get((f.trait, f.name), [])]
             else:
+                found += [self.functions[tuple(way)] for way in source.ways(path) if tuple(way) in self.functions][:1]
+        # a function that is handed on by its name, where the text has no variable of that name
+        for m in re.finditer(r"[(,]\s*((?:[a-z_]\w*::)*)([a-z_]\w*)(?=,?\s*\))", text):
+            if not re.search(rf"\b(?:let (?:mut )?|for &?){m.group(2)}\b|\b{m.group(2)}:[^:]|\|[\w\s,:&]*\b{m.group(2)}\b[\w\s,:&]*\|", text):
+                path = m.group(1).split("::")[:-1] + [m.group(2)]
                 found += [self.functions[tuple(way)] for way in source.ways(path) if tuple(way) in self.functions][:1]
         return found
 
     def proof_of(self, f):
         """The files of a function's proof: their folder has the function's name, and a `+` before it where the function calls itself."""
-        within = [f.source.module + [f.kind], [f.kind]] if f.kind else [f.source.module]
+        # the folder of a method of a trait is named by the type and the trait together
+        kind = f"{f.kind}{f.trait or ''}"
+        within = [f.source.module + [kind], [kind]] if f.kind else [f.source.module]
         ways = [".".join(inside + [mark + f.name, name]) for inside in within for mark in ("", "+") for name in PROOF]
         return [self.modules[f.source.crate, "proofs", w] for w in ways if (f.source.crate, "proofs", w) in self.modules]
 

@@ -162,6 +162,28 @@ fn plain() {}
         there = [("S::get", 9, False, True), ("way::work::out", 21, True, False), ("way::work::plain", 25, False, False)]
         self.assertEqual([(f.full(), f.line, f.exported, f.is_method()) for f in self.source.found], there)
 
+    def test_methods_of_traits(self):
+        source = rattle.Source("a", "way", """pub trait T {
+    ghost m: { x };
+
+    fn get(&self) -> u32;
+}
+impl<'a> T for S<'a> {
+    ghost m = { λ s. y { z } };
+
+    fn get(&self) -> u32 {
+        1
+    }
+}
+impl<C> W<C> {
+    fn put(&self) {}
+}
+""")
+        self.assertEqual([(f.full(), f.trait) for f in source.found], [("T::get", ""), ("S::get", "T"), ("W::put", "")])
+        self.assertEqual(source.members, ["{ x }", "{ λ s. y { z } }"])
+        tree = rattle.Tree({("a", "src", "way"): "impl T for S {\n    fn get(&self) {}\n}\n", ("a", "proofs", "way/ST/get/Answers"): "x : A\n"})
+        self.assertEqual([m.inside for m in tree.proof_of(tree.sources[0].found[0])], ["way.ST.get.Answers"])
+
     def test_a_list_of_parameters_over_several_lines(self):
         self.assertEqual(self.source.found[0].parameters(), {"self", "at"})
         self.assertEqual(self.source.found[0].answered.strip(), "u32")
@@ -180,6 +202,18 @@ fn plain() {}
         self.assertEqual([f.full() for f in tree.called(source, source.found[0].text.split("{", 5)[-1])], ["gate::inner"])
         self.assertEqual([f.full() for f in tree.called(source, source.found[1].text)], ["way::work::out", "S::get", "way::near"])
         self.assertEqual([f.source.module for f in tree.called(source, " plain()")], [["way", "work"]])
+
+    def test_what_is_handed_on_and_what_converts(self):
+        tree = rattle.Tree({
+            ("a", "src", "lib"): "pub use way::{S, near};\n",
+            ("a", "src", "way"): "pub fn near() {}\nimpl From<S> for u32 {\n    fn from(s: S) -> u32 {}\n}\n",
+            ("b", "src", "lib"): "use a::near;\nfn plain() {}\n",
+        })
+        source = next(s for s in tree.sources if s.crate == "b")
+        for text in (" a::near()", " near()"):
+            self.assertEqual([f.source.file for f in tree.called(source, text)], ["crates/a/src/way.rt"])
+        for text in (" u32::from(s)", " s.into()"):
+            self.assertEqual([f.full() for f in tree.called(source, text)], ["u32::from"])
 
 
 if __name__ == "__main__":

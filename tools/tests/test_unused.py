@@ -46,6 +46,11 @@ class Needed(unittest.TestCase):
         laws = "pub one : A\none = a\n\npub two : A\ntwo = a\n"
         self.assertEqual(found({SPECS: STATED, LAWS: laws, ("b", "proofs", "Laws"): "pub one : A\none = a\n", ("b", "proofs", "Other"): other}), ["two", "one"])
 
+    def test_what_a_ghost_field_cites(self):
+        code = "ghost use Rattle.a.specs.M.{Stated};\n\npub struct Part {\n    pub n: u32,\n    pub ghost kept: { Stated },\n}\n"
+        self.assertEqual(found({SPECS: STATED, ("a", "src", "lib"): code}), [])
+        self.assertEqual(idle({SPECS: STATED, ("a", "src", "lib"): code}), [])
+
     def test_documents(self):
         laws = "pub one : A\none = a\n\npub two : A\ntwo = a\n"
         self.assertEqual(found({LAWS: laws}, documents=["`Laws.one` says it, and crate a has `two : A`.\n"]), [])
@@ -70,6 +75,15 @@ class Needed(unittest.TestCase):
         files |= {("a", "proofs", "idle/Answers"): proof, ("a", "proofs", "idle/Invariants"): measure}
         self.assertEqual(found(files, {"a": ["call"]}), ["Stated", "one", "help", "spare", "returns", "decreases-loop-i", "idle"])
         self.assertEqual(found(files, {"a": ["call", "idle"]}), ["Stated", "spare"])
+
+    def test_what_a_type_has_by_a_trait(self):
+        code = "pub trait Held {\n    fn load() -> Self;\n    fn rest();\n}\n\nimpl Held for Part {\n    fn load() -> Part {\n        by::<true>()\n    }\n}\n"
+        code += "\nfn by<const B: bool>() -> Part {\n}\n\npub fn top() -> Part {\n    Part::load()\n}\n"
+        self.assertEqual(found({("a", "src", "lib"): code}, {"a": ["top"]}), ["Held::rest"])
+
+    def test_a_function_that_is_handed_on_by_its_name(self):
+        code = "fn one(x: u32) {\n}\n\nfn two(x: u32) {\n}\n\nfn each(f: F) {\n}\n\npub fn top(two: u32) {\n    each(one);\n    each(two);\n}\n"
+        self.assertEqual(found({("a", "src", "lib"): code}, {"a": ["top"]}), ["two"])
 
     def test_what_attributes_hand_to_tactics(self):
         laws = "".join(f"pub {n} : A\n{n} = a\n\n" for n in ("one", "two", "three", "four"))
@@ -100,6 +114,12 @@ class Idle(unittest.TestCase):
     def test_sources(self):
         src = "ghost use A.{x, y};\nuse b::{Word, gate};\n// gate::f()\npub fn f(w: Word)\n    ensures { x }\n{\n    let y = 1;\n}\n"
         self.assertEqual([name for _, name in idle({("a", "src", "lib"): src})], ["y", "gate"])
+
+    def test_a_trait_is_used_by_its_methods(self):
+        held = "pub trait Held {\n    fn store(self);\n}\n"
+        files = {("a", "src", "lib"): held, ("b", "src", "lib"): "use a::Held;\n\nfn f(x: u8) {\n    x.store();\n}\n"}
+        files["b", "src", "other"] = "use a::Held;\n\nfn g(x: u8) {\n    x.restore();\n}\n"
+        self.assertEqual(idle(files), [(1, "Held")])
 
     def test_a_trait_of_std_is_used_without_its_name(self):
         src = "use std::io::{Read, Stdin, Stdout};\nuse b::Write;\npub fn f(i: Stdin) {\n    i.read();\n}\n"
