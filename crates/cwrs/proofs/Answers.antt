@@ -1,31 +1,32 @@
 -- The answers of reading a vector, by the number, and what the two workers did in the contracts' terms. Assumes nothing.
+use Rattle.std.specs.Prelude.{Ok}
 use Prim.Native.Nat.{ℕ, zero, suc, ◌<◌}
 use mathlib.Core.Path.{◌≡◌, refl, ap, ◌∙◌}
 use mathlib.Core.List.{List, ◌++◌}
 use lib.IntN.{ℤ}
 use lib.ListN.{take, drop}
+use Rattle.entcode.specs.Said.Said.{refused}
 use Rattle.entcode.specs.Said.{answer, lent_after}
 use Rattle.entcode.specs.Sym.Shape.{uint}
 use Rattle.entdec.specs.declared.Reader.{Reader}
-use Rattle.entdec.specs.declared.ReadSymbol.{ReadSymbol}
+use Rattle.entdec.specs.Coded.{ReadSymbol}
 use Rattle.entdec.specs.Symbols.{read_sym}
 use Rattle.entenc.specs.Write.{Wr}
 use Rattle.entenc.specs.Symbols.{write_sym}
 use Rattle.cwrs_counts.specs.Count.{Vn, count32}
 use Rattle.cwrs.specs.Word.{energy, index, word}
 use Rattle.cwrs.specs.declared.Found.{Found}
-use Rattle.cwrs.specs.declared.Decoded.TheVariants.{Done, Refused}
 use Rattle.cwrs.specs.Answer.{read_word, write_word, found_of, after_read, answer_r}
 use Rattle.cwrs_counts.proofs.Recurrence.{count-is}
 use Rattle.cwrs.proofs.Back.{word_first}
 
 -- number 0: what was found, and its places
-pub answer_got : (m : ℕ) (f : Found) (v y : List ℤ) → m ≡ 0 → after_read (Done f) v ≡ answer_r m f v y
+pub answer_got : (m : ℕ) (f : Found) (v y : List ℤ) → m ≡ 0 → after_read (Ok f) v ≡ answer_r m f v y
 unfolding answer lent_after
 answer_got m f v y e = rw e
 
 -- any other: the refusal, and the places as they were
-pub answer-refused : (m : ℕ) (f : Found) (v y : List ℤ) → (m ≡ 0 → ⊥) → after_read (Refused m) y ≡ answer_r m f v y
+pub answer-refused : (m : ℕ) (f : Found) (v y : List ℤ) → (m ≡ 0 → ⊥) → record { said = refused m; places = y } ≡ answer_r m f v y
 unfolding answer lent_after
 answer-refused zero f v y h = absurd (h refl)
 answer-refused (suc m) f v y h = refl

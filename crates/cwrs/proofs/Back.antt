@@ -8,9 +8,10 @@ use native.Mathlib.Numerals.{add-one}
 use native.Mathlib.Omega.{arith}
 use lib.Dec.{leb, ltb}
 use lib.IntN.{ℤ, pos, nat_abs}
-use lib.ListN.{length, take, set, replicate}
+use lib.ListN.{length, take, drop, set, replicate, length-take, length-drop}
 use lib.Seq.{take-suc-set, take_at}
 use borrow.Author.Tests.{le-leb, lt-leb, leb-true, leb-false, lt-ltb}
+use Rattle.std.proofs.lemmas.List.{drop-drop}
 use Rattle.laws.specs.Signs.{with_sign}
 use Rattle.laws.proofs.Tests.{split_on, cond-le, by_le}
 use Rattle.laws.proofs.Signs.{size-value}
@@ -148,17 +149,18 @@ written y W j n k i v k' i' h l ev ek ei w =
     rw (add-one, take-suc-set y j v l, append_assoc, ← add-one) (ap (λ (t : List ℤ). take j y ++ t) (sym s) ∙ w)
 
 -- what the loop leaves is silent: there is no place or no pulse
-pub silent : (j n k i : ℕ) → (ltb j n && ltb 0 k) ≡ false → word (n - j) k i ≡ replicate (n - j) (pos 0)
+silent : (j n k i : ℕ) → (ltb j n && ltb 0 k) ≡ false → word (n - j) k i ≡ replicate (n - j) (pos 0)
 silent j n zero i t = word_none (n - j) i
 silent j n (suc k) i t =
     by_le n j (λ h. let z : n - j ≡ 0 = omega arith in rw (z, word-zero))
     (λ h. absurd (false≢true (sym t ∙ rw (lt-ltb j n h, lt-ltb 0 (suc k) (omega arith)))))
 
--- ---- a step of the loop that writes zeros, and its end: y is written up to i
-
--- the next place is written
-pub zero-written : (y W : List ℤ) (i n : ℕ) → i < n → i < length y → take i y ++ replicate (n - i) (pos 0) ≡ W
-    → take (i + 1) (set y i (pos 0)) ++ replicate (n - (i + 1)) (pos 0) ≡ W
-zero-written y W i n h l w =
-    let e : suc (n - (i + 1)) ≡ n - i = omega arith in
-    rw (add-one, take-suc-set y i (pos 0) l, append_assoc, ← add-one) (ap (λ (m : ℕ). take i y ++ replicate m (pos 0)) e ∙ w)
+-- then zeros stand in the places from j up to n, and the others stay
+pub silenced : (y z l W : List ℤ) (j n k i : ℕ) → j ≤ n → n ≤ length y → (ltb j n && ltb 0 k) ≡ false
+    → l ≡ replicate (length (take (n - j) (drop j y))) (pos 0) → take j y ++ word (n - j) k i ≡ W → drop n y ≡ z
+    → take j y ++ (l ++ drop (n - j) (drop j y)) ≡ W ++ z
+silenced y z l W j n k i h g t p w f =
+    let m : length (take (n - j) (drop j y)) ≡ n - j = simp (length-take, length-drop) (omega arith) in
+    let q : word (n - j) k i ≡ l = silent j n k i t ∙ sym (p ∙ ap (λ (x : ℕ). replicate x (pos 0)) m) in
+    let d : drop (n - j) (drop j y) ≡ z = drop-drop (n - j) j y ∙ ap (λ (x : ℕ). drop x y) (omega arith) ∙ f in
+    rw (d, ← w, q) (sym (append_assoc (take j y) l z))

@@ -4,5 +4,4 @@ pub mod Back
 pub mod Inverse
 pub mod Refusing
 pub mod Answers
-pub mod Said
 pub mod Promises

@@ -1,10 +1,10 @@
 -- What the public calls say, by document 01's number of the refusal and the values, and what the lent places then hold.
-use Rattle.std.specs.Prelude.{ℕ, Bool, true, cond, ◌&&◌, List, ◌++◌, ℤ, length, take, drop, ltb, leb, eqb}
-use Rattle.entcode.specs.Said.{Said, answer, lent_after}
-use Rattle.entcode.specs.Said.Said.{done, refused}
+use Rattle.std.specs.Prelude.{ℕ, Bool, true, cond, ◌&&◌, List, ◌++◌, ℤ, length, take, drop, ltb, leb, eqb, Result}
+use Rattle.entcode.specs.declared.reasons.Refusal.{Refusal}
+use Rattle.entcode.specs.Said.{Said, answer, lent_after, said}
 use Rattle.entcode.specs.Sym.Shape.{uint}
 use Rattle.entdec.specs.declared.Reader.{Reader}
-use Rattle.entdec.specs.declared.ReadSymbol.{ReadSymbol}
+use Rattle.entdec.specs.Coded.{ReadSymbol}
 use Rattle.entdec.specs.Rule.{read_refusal}
 use Rattle.entdec.specs.Symbols.{read_sym}
 use Rattle.entenc.specs.Write.{Wr}
@@ -14,8 +14,6 @@ use Rattle.entenc.specs.Answer as wrote
 use Rattle.cwrs_counts.specs.Count.{Vn}
 use Rattle.cwrs.specs.Word.{pulses, energy, index, word}
 use Rattle.cwrs.specs.declared.Found.{Found}
-use Rattle.cwrs.specs.declared.Decoded.{Decoded}
-use Rattle.cwrs.specs.declared.Decoded.TheVariants.{Done, Refused}
 
 -- ---- the refusals that are these calls' own
 
@@ -53,18 +51,13 @@ found_of n k s d = record { energy = energy (read_word n k s d); next = (read_in
 unfoldable pub refusal_read : ℕ → ℕ → List ℕ → Reader → List ℤ → ℕ
 refusal_read n k s d y = read_refusal (length s) d (places_sized y) (in_domain n k) true (special_read n k)
 
--- what an answer of a read says
-abbrev pub said : Decoded → Said Found
-said (Done f) = done f
-said (Refused m) = refused m
-
 -- what is said, and the lent places after the call
 pub record AfterRead : Type 0 where
   pub said : Said Found
   pub places : List ℤ
 
 -- made of its two parts
-abbrev pub after_read : Decoded → List ℤ → AfterRead
+abbrev pub after_read : Result Found Refusal → List ℤ → AfterRead
 after_read r y = record { said = said r; places = y }
 
 -- number 0: what was found, with its places; any other: that refusal, and the places as they were

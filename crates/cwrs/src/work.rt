@@ -1,5 +1,7 @@
 // A vector's number and back, over the first n places of a lent vector. They test nothing; the public calls do.
-ghost use Rattle.std.specs.Prelude.{◌≡◌, cond, ◌++◌, ◌+◌, ◌-◌, ◌<◌, ◌≤◌, ◌^◌, leb, pos, length, take, drop, replicate};
+// Reading and writing are two computations, of which one undoes the other.
+// N and K stay numbers with their bounds in each contract: types for them would be opened at each sum, and each function has other bounds.
+ghost use Rattle.std.specs.Prelude.{◌≡◌, cond, ◌++◌, ◌+◌, ◌-◌, ◌<◌, ◌≤◌, ◌^◌, leb, length, take, drop};
 ghost use Rattle.entdec.specs.Ready as reader;
 ghost use Rattle.entenc.specs.Ready as writer;
 ghost use Rattle.entenc.specs.Write.{wr};
@@ -19,11 +21,9 @@ pub fn total(y: &[i32], n: usize) -> usize
     ensures { result ≡ pulses (take n y.now) }
 {
     let mut k: usize = 0;
-    let mut j = n;
-    while j > 0 {
-        j -= 1;
+    for j in (0..n).rev() {
         let v = y[j];
-        k += laws::unsigned_abs(v) as usize;
+        k += v.unsigned_abs() as usize;
     }
     k
 }
@@ -35,13 +35,11 @@ pub fn icwrs(y: &[i32], n: usize) -> u32
 {
     let mut i: u32 = 0;
     let mut k: usize = 0;
-    let mut j = n;
-    while j > 0 {
-        j -= 1;
+    for j in (0..n).rev() {
         let m = n - j;
         let v = y[j];
         i += pvq_u(m, k);
-        k += laws::unsigned_abs(v) as usize;
+        k += v.unsigned_abs() as usize;
         if v < 0 {
             i += pvq_u(m, k + 1);
         }
@@ -112,18 +110,6 @@ fn first_spot(n: usize, k: usize, i: u32, v: u32) -> Spot
     }
 }
 
-// Zeros into the places from j up to n.
-fn silence(y: &mut [i32], j: usize, n: usize)
-    requires { (j ≤ n) × (n ≤ length y.old) × (n ≤ 176) }
-    ensures { y.new ≡ (take j y.old ++ replicate (n - j) (pos 0)) ++ drop n y.old }
-{
-    let mut i = j;
-    while i < n {
-        y[i] = 0;
-        i += 1;
-    }
-}
-
 // The vector of n places and k pulses with the number i, of v vectors, into the first n places, section 4.3.4.2.
 pub fn cwrsi(y: &mut [i32], n: usize, k: usize, i: u32, v: u32)
     requires { (n ≤ length y.old) × (n ≤ 176) × (k ≤ 128) × (v ≡ Vn n k) }
@@ -133,6 +119,7 @@ pub fn cwrsi(y: &mut [i32], n: usize, k: usize, i: u32, v: u32)
     let mut at = i;
     let mut count = v;
     let mut j: usize = 0;
+    // A `for` over the places, with a test of `left` inside, makes reading a word a tenth slower.
     while (j < n) & (0 < left) {
         let p = first_spot(n - j, left, at, count);
         let x = p.value;
@@ -142,7 +129,7 @@ pub fn cwrsi(y: &mut [i32], n: usize, k: usize, i: u32, v: u32)
         count = p.count;
         j += 1;
     }
-    silence(y, j, n);
+    y[j..n].fill(0);
 }
 
 // The sum of the squares of the first n places.
@@ -151,11 +138,9 @@ pub fn energy(y: &[i32], n: usize) -> u32
     ensures { (result ≡ Word.energy (take n y.now)) × (result ≤ 16384) }
 {
     let mut e: u32 = 0;
-    let mut j = n;
-    while j > 0 {
-        j -= 1;
+    for j in (0..n).rev() {
         let v = y[j];
-        let s = laws::unsigned_abs(v);
+        let s = v.unsigned_abs();
         e += s * s;
     }
     e

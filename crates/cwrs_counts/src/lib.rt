@@ -1,4 +1,5 @@
 // How many pulse vectors there are: RFC 6716, section 4.3.4.2.
+// N and K stay numbers with their bounds in each contract: a type for them would be opened at each comparison.
 #![tactic(auto)]
 
 ghost use Rattle.std.specs.Prelude.{◌≡◌, ◌<◌, ◌≤◌, ◌^◌, ltb};
@@ -30,7 +31,8 @@ fn fits(n: usize, k: usize) -> bool
     }
 }
 
-// V(n, k), the number of vectors of n places and k pulses, or 0 where it is 2^32 or more.
+// V(n, k), the number of vectors of n places and k pulses, or 0 where it is 2^32 or more: no Option, since `count32`, on which
+// the theorems stand, says 0.
 pub fn pvq_v(n: usize, k: usize) -> u32
     requires { (1 ≤ n) × (n ≤ 176) × (k ≤ 175) }
     ensures { result ≡ count32 n k }

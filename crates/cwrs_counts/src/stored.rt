@@ -691,7 +691,7 @@ fn edge(a: usize, b: usize) -> u32
     requires { (a ≤ 1) × (a ≤ b) }
     ensures { result ≡ U a b }
 {
-    if (a == 1) | (b == 0) { 1 } else { 0 }
+    u32::from((a == 1) | (b == 0))
 }
 
 // U(a, b), where 32 bits hold it.

@@ -1,11 +1,29 @@
 -- What is said, by its number; and that an enum that can be recovered from what it says is given by it. Assumes nothing.
+use Rattle.std.specs.Prelude.{Result, Ok, Err, IsErrAnd}
+use Rattle.std.proofs.lemmas.Result.{err_from_is_err_and}
 use Prim.Native.Nat.{ℕ, zero, suc}
 use mathlib.Core.Path.{◌≡◌, refl, sym, ap, ◌∙◌}
-use Rattle.entcode.specs.Said.{Said, number, answer, lent_after}
+use mathlib.Core.Bool.{false, cond}
+use native.Mathlib.Omega.{arith}
+use lib.Dec.{eqb}
+use Rattle.entcode.specs.declared.reasons.Refusal.{Refusal}
+use Rattle.entcode.specs.declared.reasons.Refusal.TheVariants.{
+  Number,
+  Length,
+  Entry,
+  PastEnd,
+  NoRow,
+  Index,
+  Count,
+  Sum,
+  Rotation,
+  BelowNext,
+  AboveNext,
+  Closed,
+}
+use Rattle.entcode.specs.Refusal.{number_of}
+use Rattle.entcode.specs.Said.{Said, number, answer, lent_after, said, verdict}
 use Rattle.entcode.specs.Said.Said.{done, refused}
-use Rattle.entcode.specs.declared.TellAnswer.{TellAnswer}
-use Rattle.entcode.specs.declared.TellAnswer.TheVariants.{Done, Refused}
-use Rattle.entcode.specs.Counts.{said_tell}
 
 module _ {A : Type 0} where
   -- the number of an answer is the one that it was made of
@@ -35,16 +53,97 @@ module _ {A : Type 0} where
   pub alike : {E : Type 0} (said : E → Said A) (back : Said A → E) → ((r : E) → back (said r) ≡ r) → {a b : E} → said a ≡ said b → a ≡ b
   alike said back h {a} {b} e = sym (h a) ∙ ap back e ∙ h b
 
--- what tell answers, recovered from what it says
-abbrev pub from_said : Said ℕ → TellAnswer
-from_said (done n) = Done n
-from_said (refused n) = Refused n
+-- every refusal has a number that is not 0
+pub number_of-some : (why : Refusal) → eqb (number_of why) 0 ≡ false
+number_of-some Number = refl
+number_of-some Length = refl
+number_of-some Entry = refl
+number_of-some PastEnd = refl
+number_of-some NoRow = refl
+number_of-some Index = refl
+number_of-some Count = refl
+number_of-some Sum = refl
+number_of-some Rotation = refl
+number_of-some BelowNext = refl
+number_of-some AboveNext = refl
+number_of-some Closed = refl
+
+-- no refusal has number 0
+pub some : (why : Refusal) → number_of why ≡ 0 → ⊥
+some Number e = absurd (omega arith)
+some Length e = absurd (omega arith)
+some Entry e = absurd (omega arith)
+some PastEnd e = absurd (omega arith)
+some NoRow e = absurd (omega arith)
+some Index e = absurd (omega arith)
+some Count e = absurd (omega arith)
+some Sum e = absurd (omega arith)
+some Rotation e = absurd (omega arith)
+some BelowNext e = absurd (omega arith)
+some AboveNext e = absurd (omega arith)
+some Closed e = absurd (omega arith)
+
+-- the refusal that has a number
+abbrev pub of_number : ℕ → Refusal
+of_number n =
+    cond (eqb n 1) Number (
+    cond (eqb n 2) Length (
+    cond (eqb n 3) Entry (
+    cond (eqb n 4) PastEnd (
+    cond (eqb n 5) NoRow (
+    cond (eqb n 6) Index (
+    cond (eqb n 7) Count (
+    cond (eqb n 8) Sum (
+    cond (eqb n 9) Rotation (
+    cond (eqb n 10) BelowNext (
+    cond (eqb n 11) AboveNext Closed))))))))))
+
+-- a refusal has no number but its own
+pub of_number-back : (why : Refusal) → of_number (number_of why) ≡ why
+of_number-back Number = refl
+of_number-back Length = refl
+of_number-back Entry = refl
+of_number-back PastEnd = refl
+of_number-back NoRow = refl
+of_number-back Index = refl
+of_number-back Count = refl
+of_number-back Sum = refl
+of_number-back Rotation = refl
+of_number-back BelowNext = refl
+of_number-back AboveNext = refl
+of_number-back Closed = refl
+
+-- what is answered, recovered from what it says
+abbrev pub from_said : {A : Type 0} → Said A → Result A Refusal
+from_said (done v) = Ok v
+from_said (refused n) = Err (of_number n)
 
 -- recovering it gives the answer
-pub from_said_back : (r : TellAnswer) → from_said (said_tell r) ≡ r
-from_said_back (Done n) = refl
-from_said_back (Refused n) = refl
+pub said_back : {A : Type 0} (r : Result A Refusal) → from_said (said r) ≡ r
+said_back (Ok v) = refl
+said_back (Err why) = ap Err (of_number-back why)
 
--- two answers of tell that say the same are one
-pub said_tell-same : {a b : TellAnswer} → said_tell a ≡ said_tell b → a ≡ b
-said_tell-same e = alike said_tell from_said from_said_back e
+-- two answers that say the same are one
+pub said_same : {A : Type 0} {a b : Result A Refusal} → said a ≡ said b → a ≡ b
+said_same e = alike said from_said said_back e
+
+-- two answers without values that have one number are one
+pub verdict_same : {a b : Result (Unit {0}) Refusal} → verdict a ≡ verdict b → a ≡ b
+verdict_same {a = Ok u} {b = Ok v} e = refl
+verdict_same {a = Ok u} {b = Err why} e = absurd (some why (sym e))
+verdict_same {a = Err why} {b = Ok v} e = absurd (some why e)
+verdict_same {a = Err why} {b = Err why'} e = ap Err (sym (of_number-back why) ∙ ap of_number e ∙ of_number-back why')
+
+-- a call that a gate stops, by `?`, says the gate's refusal
+pub stopped-says : {A B : Type 0} (gate : Result A Refusal) (out : Result B Refusal) (why : Refusal) → gate ≡ Err why → IsErrAnd out (λ e. e ≡ why)
+    → said out ≡ refused (verdict gate)
+stopped-says gate out why was h = let p = err_from_is_err_and out h in rw (p.1, p.2, was) refl
+
+-- its number
+pub stopped : {A B : Type 0} (gate : Result A Refusal) (out : Result B Refusal) (why : Refusal) → gate ≡ Err why → IsErrAnd out (λ e. e ≡ why)
+    → verdict out ≡ verdict gate
+stopped gate out why was h = rw (stopped-says gate out why was h) refl
+
+-- which is not 0
+pub stopped-some : {A : Type 0} (gate : Result A Refusal) (why : Refusal) → gate ≡ Err why → verdict gate ≡ 0 → ⊥
+stopped-some gate why was e = some why (sym (ap verdict was) ∙ e)

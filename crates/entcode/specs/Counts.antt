@@ -1,10 +1,7 @@
 -- What is asked of a coder state that is handed in, the same for reader and writer: document 01, "When the answer is no"; and what tell says.
 use Rattle.std.specs.Prelude.{ℕ, ◌+◌, ◌*◌, Bool, cond, ◌&&◌, ltb, leb}
-use Rattle.entcode.specs.declared.TellAnswer.{TellAnswer}
-use Rattle.entcode.specs.declared.TellAnswer.TheVariants.{Done, Refused}
 use Rattle.entcode.specs.Tell.{tell_of}
 use Rattle.entcode.specs.Said.{Said, answer}
-use Rattle.entcode.specs.Said.Said.{done, refused}
 
 -- storage 0..1,275; range above 2^23 and at most 2^31; waiting raw bits 0..32; bit count 33..65,535
 unfoldable pub counts_ok : ℕ → ℕ → ℕ → ℕ → Bool
@@ -14,11 +11,6 @@ counts_ok storage rng waiting total =
 -- the test of refusal 4: tell is at most 8 bits a byte of storage and 32 more
 abbrev pub tell_ok : ℕ → ℕ → ℕ → Bool
 tell_ok storage total rng = leb (tell_of total rng) (8 * storage + 32)
-
--- what an answer of tell or tell_frac says
-abbrev pub said_tell : TellAnswer → Said ℕ
-said_tell (Done n) = done n
-said_tell (Refused n) = refused n
 
 -- what tell and tell_frac say: n, or refusal 1 where the state breaks its rule
 abbrev pub tell_said : Bool → ℕ → Said ℕ

@@ -1,6 +1,7 @@
--- What a public call says: document 01's number and values, whatever the call. The enum of each public answer has a definition that gives them for
--- each of its cases, and the promises are stated by it.
-use Rattle.std.specs.Prelude.{ℕ, zero, suc}
+-- What a public call says: document 01's number and values, whatever the call. The promises are stated by it.
+use Rattle.std.specs.Prelude.{ℕ, zero, suc, Result, Ok, Err}
+use Rattle.entcode.specs.declared.reasons.Refusal.{Refusal}
+use Rattle.entcode.specs.Refusal.{number_of}
 
 -- the values of a call that is done, whose number is 0; or the number of the refusal and nothing else
 pub data Said (A : Type 0) : Type 0 where
@@ -26,3 +27,12 @@ lent_after (suc n) written before = before
 abbrev pub map_said : {A B : Type 0} → (A → B) → Said A → Said B
 map_said f (Said.done v) = Said.done (f v)
 map_said f (Said.refused n) = Said.refused n
+
+-- what a call's Result says: its values, or the number of the refusal
+abbrev pub said : {A : Type 0} → Result A Refusal → Said A
+said (Ok v) = Said.done v
+said (Err why) = Said.refused (number_of why)
+
+-- the number of what a call or a gate answers, 0 where it is no refusal
+abbrev pub verdict : {A : Type 0} → Result A Refusal → ℕ
+verdict r = number (said r)

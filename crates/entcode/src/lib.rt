@@ -1,19 +1,21 @@
 // What reader and writer of the range coder share: RFC 6716, sections 4.1 and 5.1.
 #![tactic(auto)]
 
+mod reasons;
 pub mod table;
 
 ghost use Rattle.std.specs.Prelude.{◌≡◌, ◌≤◌, ◌<◌};
 ghost use Rattle.entcode.specs.Range.{ilog};
 ghost use Rattle.entcode.specs.Tell.{tell_of, eighths, tell_frac_of};
 ghost use Rattle.entcode.specs.Counts.{counts_ok, tell_ok};
-ghost use Rattle.entcode.specs.Refusal.{refusal, last_two};
 
-// How many bits, or eighths of a bit, are used; or the number of the refusal.
+pub use reasons::{Refusal, refusal_of};
+
+// A value, and the coder after it.
 #[derive(Clone, Copy)]
-pub enum TellAnswer {
-    Done(u32),
-    Refused(u32),
+pub struct Coded<V, C> {
+    pub value: V,
+    pub next: C,
 }
 
 // EC_ILOG: how many binary digits a number has.
@@ -27,8 +29,7 @@ pub fn ilog(n: u32) -> u32
 pub fn tell_of(total: u32, rng: u32) -> u32
     ensures { (result ≡ tell_of total rng) × (result ≤ total) }
 {
-    let l = ilog(rng);
-    if l < total { total - l } else { 0 }
+    total.saturating_sub(ilog(rng))
 }
 
 // Entry k decides for the numbers whose top four digits are those of k + 8: up to it three truncated squarings give k eighths, above it k + 1
@@ -73,45 +74,4 @@ pub fn tell_ok(storage: u32, total: u32, rng: u32) -> bool
 {
     let used = tell_of(total, rng) as u64;
     used <= 8 * (storage as u64) + 32
-}
-
-// The number of the refusal, 0 for none, in document 01's order.
-pub fn refusal_of(
-    lengths: bool,
-    numbers: bool,
-    lists: bool,
-    special: u32,
-    unclosed: bool,
-    fits: bool,
-) -> u32
-    ensures { result ≡ refusal lengths numbers lists special unclosed fits }
-{
-    if lengths {
-        if numbers {
-            if lists {
-                if special == 0 {
-                    last_two(unclosed, fits)
-                } else {
-                    special
-                }
-            } else {
-                3
-            }
-        } else {
-            1
-        }
-    } else {
-        2
-    }
-}
-
-// The two that come last: a write after close (12), and a tell above its bound (4).
-fn last_two(unclosed: bool, fits: bool) -> u32
-    ensures { result ≡ last_two unclosed fits }
-{
-    if unclosed {
-        if fits { 0 } else { 4 }
-    } else {
-        12
-    }
 }

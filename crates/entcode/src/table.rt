@@ -7,14 +7,12 @@ fn falls_from(t: &[u8], top: u32) -> bool
     ensures { result ≡ falls top t.now }
 {
     let mut p = top;
-    let mut i = 0;
-    while i < t.len() {
-        let x = laws::wide(t[i]);
+    for &b in t {
+        let x = u32::from(b);
         if p <= x {
             return false;
         }
         p = x;
-        i += 1;
     }
     p == 0
 }

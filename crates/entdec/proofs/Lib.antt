@@ -6,7 +6,6 @@ pub mod Pulls
 pub mod Uniform
 pub mod Accepted
 pub mod Lengths
-pub mod Said
 pub mod Found
 pub mod Steps
 pub mod Kept

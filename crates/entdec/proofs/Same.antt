@@ -8,7 +8,7 @@ use Rattle.laws.proofs.Tests.{cond-by}
 use Rattle.entcode.specs.Sym.{Model, Shape, bit_model, table_model, flat_model, low_bits}
 use Rattle.entcode.specs.Sym.Shape.{bit, table, uint, raw, modelled}
 use Rattle.entdec.specs.declared.Reader.{Reader}
-use Rattle.entdec.specs.declared.ReadSymbol.{ReadSymbol}
+use Rattle.entdec.specs.Coded.{ReadSymbol}
 use Rattle.entdec.specs.Read.{decoded_place, read_bits, read_of}
 use Rattle.entdec.specs.Symbols.{read_one, within, read_long, read_sym}
 use Rattle.entdec.proofs.Pulls.{total-after, rng-after}

@@ -16,7 +16,7 @@ use Rattle.entcode.specs.Sym.Shape.{bit, table, uint, raw, modelled}
 use Rattle.entcode.proofs.Cuts.{CutOk, cut_in}
 use Rattle.entcode.proofs.RenormSteps.{steps_scaled, steps_le}
 use Rattle.entdec.specs.declared.Reader.{Reader}
-use Rattle.entdec.specs.declared.ReadSymbol.{ReadSymbol}
+use Rattle.entdec.specs.Coded.{ReadSymbol}
 use Rattle.entdec.specs.Read.{decoded_place, taken, update, fetch, fetches, read_bits, read_of, with_raw}
 use Rattle.entdec.specs.Symbols.{read_one, within, read_long, read_sym}
 use Rattle.entdec.proofs.Places.{held_by_lem}

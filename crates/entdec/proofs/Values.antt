@@ -11,7 +11,7 @@ use Rattle.laws.proofs.Tests.{cond-by, cond-le}
 use Rattle.entcode.specs.Sym.{falls, low_bits}
 use Rattle.entcode.specs.Sym.Shape.{bit, table, uint, raw}
 use Rattle.entdec.specs.declared.Reader.{Reader}
-use Rattle.entdec.specs.declared.ReadSymbol.{ReadSymbol}
+use Rattle.entdec.specs.Coded.{ReadSymbol}
 use Rattle.entdec.specs.Read.{decoded_place}
 use Rattle.entdec.specs.Symbols.{within, read_long, read_sym}
 use Rattle.entdec.proofs.Places.{place_less}

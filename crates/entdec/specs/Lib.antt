@@ -1,3 +1,4 @@
+pub mod Coded
 pub mod Read
 pub mod Symbols
 pub mod Rule

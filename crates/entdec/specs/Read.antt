@@ -3,7 +3,7 @@ use Rattle.std.specs.Prelude.{ℕ, zero, suc, ◌+◌, ◌-◌, ◌*◌, ◌/◌
 use Rattle.std.specs.Int.Bits.{bit_or}
 use Rattle.entcode.specs.Range.{renorm_steps, cut_width}
 use Rattle.entdec.specs.declared.Reader.{Reader}
-use Rattle.entdec.specs.declared.ReadSymbol.{ReadSymbol}
+use Rattle.entdec.specs.Coded.{ReadSymbol}
 
 -- the state with other numbers of the range coder
 abbrev pub with_range : Reader → ℕ → ℕ → ℕ → ℕ → ℕ → ℕ → Reader

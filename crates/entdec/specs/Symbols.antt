@@ -3,7 +3,7 @@ use Rattle.std.specs.Prelude.{ℕ, ◌+◌, ◌-◌, ◌*◌, ◌/◌, ◌^◌, 
 use Rattle.entcode.specs.Sym.{Model, Shape, bit_model, table_model, flat_model, low_bits}
 use Rattle.entcode.specs.Sym.Shape.{bit, table, uint, raw, modelled}
 use Rattle.entdec.specs.declared.Reader.{Reader}
-use Rattle.entdec.specs.declared.ReadSymbol.{ReadSymbol}
+use Rattle.entdec.specs.Coded.{ReadSymbol}
 use Rattle.entdec.specs.Read.{read_of, decoded_place, update, read_bits, with_raw}
 
 -- a symbol that is one part of the range: the value of the place shown, whose part is taken

@@ -1,9 +1,11 @@
 // What a read is refused with: document 01, "When the answer is no".
 ghost use Rattle.std.specs.Prelude.{◌≡◌, ◌&&◌, ◌^◌, ltb, leb, eqb, length};
+ghost use Rattle.entcode.specs.Said.{verdict};
 ghost use Rattle.entcode.specs.Sym.{falls};
 ghost use Rattle.entdec.specs.Rule.{reader_ok, read_refusal};
 
 use super::Reader;
+use entcode::Refusal;
 
 impl Reader {
     // Does the state meet its rule?
@@ -24,25 +26,31 @@ impl Reader {
         (self.storage as usize == n) & lengths
     }
 
-    // The number of the refusal of a call that can read symbols, 0 for none. n bytes are lent; lengths, numbers, lists and special are what
-    // the call found.
-    pub fn refusal(self, n: usize, lengths: bool, numbers: bool, lists: bool, special: u32) -> u32
-        ensures { result ≡ read_refusal n self lengths numbers lists special }
+    // The refusal of a call that can read symbols. n bytes are lent; lengths, numbers, lists and special are what the call found.
+    pub fn refusal(
+        self,
+        n: usize,
+        lengths: bool,
+        numbers: bool,
+        lists: bool,
+        special: Result<(), Refusal>,
+    ) -> Result<(), Refusal>
+        ensures { verdict result ≡ read_refusal n self lengths numbers lists (verdict special) }
     {
         let fits = entcode::tell_ok(self.storage, self.total, self.rng);
         let known = self.sound() & numbers;
         entcode::refusal_of(self.sized(n, lengths), known, lists, special, true, fits)
     }
 
-    // The number of the refusal of reading a table's symbol, 0 for none. The table is read once every length is right.
-    pub fn refusal_table(self, n: usize, t: &[u8], ftb: u32) -> u32
-        ensures { result ≡ read_refusal n self (ltb 0 (length t.now)) (leb 1 ftb && leb ftb 8) (falls (2 ^ ftb) t.now) 0 }
+    // The refusal of reading a table's symbol. The table is read once every length is right.
+    pub fn refusal_table(self, n: usize, t: &[u8], ftb: u32) -> Result<(), Refusal>
+        ensures { verdict result ≡ read_refusal n self (ltb 0 (length t.now)) (leb 1 ftb && leb ftb 8) (falls (2 ^ ftb) t.now) 0 }
     {
         let some = 0 < t.len();
         if self.sized(n, some) {
             let falls = entcode::table::table_ok(t, ftb);
-            return self.refusal(n, some, (1 <= ftb) & (ftb <= 8), falls, 0);
+            return self.refusal(n, some, (1 <= ftb) & (ftb <= 8), falls, Ok(()));
         }
-        2
+        Err(Refusal::Length)
     }
 }

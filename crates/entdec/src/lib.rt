@@ -2,15 +2,15 @@
 #![tactic(auto)]
 
 ghost use Rattle.std.specs.Prelude.{◌≡◌};
-ghost use Rattle.entcode.specs.Counts.{said_tell, tell_said};
-ghost use Rattle.entcode.specs.Said.{answer};
+ghost use Rattle.entcode.specs.Counts.{tell_said};
+ghost use Rattle.entcode.specs.Said.{said, answer};
 ghost use Rattle.entcode.specs.Sym.Shape.{bit, table, uint, raw};
 ghost use Rattle.entcode.specs.Tell.{tell_of, tell_frac_of};
-ghost use Rattle.entdec.specs.Answer.{said, said_start, start_of};
+ghost use Rattle.entdec.specs.Answer.{start_of};
 ghost use Rattle.entdec.specs.Rule.{reader_ok, refusal_r};
 ghost use Rattle.entdec.specs.Symbols.{read_sym};
 
-use entcode::TellAnswer;
+use entcode::{Coded, Refusal};
 
 mod bytes;
 pub mod gate;
@@ -34,30 +34,13 @@ pub struct Reader {
 }
 
 // A value read, and the state after it.
-#[derive(Clone, Copy)]
-pub struct ReadSymbol {
-    pub value: u32,
-    pub next: Reader,
-}
+pub type ReadSymbol = Coded<u32, Reader>;
 
-// What a public read answers: what was read, or the number of the refusal.
-#[derive(Clone, Copy)]
-pub enum ReadAnswer {
-    Done(ReadSymbol),
-    Refused(u32),
-}
-
-// A new reader, or the number of the refusal.
-#[derive(Clone, Copy)]
-pub enum Started {
-    Done(Reader),
-    Refused(u32),
-}
-
+// Each symbol has a call of its own, as tell and tell_frac have: README, the theorems and the exports name them. Each is its gate and one worker.
 impl Reader {
     // A reader of a packet, section 4.1.1.
-    pub fn new(s: &[u8]) -> Started
-        ensures { said_start result ≡ start_of s.now }
+    pub fn new(s: &[u8]) -> Result<Reader, Refusal>
+        ensures { said result ≡ start_of s.now }
     {
         let n = s.len();
         if n <= 1275 {
@@ -76,79 +59,63 @@ impl Reader {
                 rem: b,
                 error: false,
             };
-            Started::Done(d.normalize(s))
+            Ok(d.normalize(s))
         } else {
-            Started::Refused(1)
+            Err(Refusal::Number)
         }
     }
 
     // One bit that is 1 with a probability of 1 in 2^logp, section 4.1.3.2.
-    pub fn bit_logp(self, s: &[u8], logp: u32) -> ReadAnswer
+    pub fn bit_logp(self, s: &[u8], logp: u32) -> Result<ReadSymbol, Refusal>
         ensures { said result ≡ answer (refusal_r (bit logp) s.now self) (read_sym (bit logp) s.now self) }
     {
-        let n = self.refusal(s.len(), true, (1 <= logp) & (logp <= 15), true, 0);
-        if n == 0 {
-            ReadAnswer::Done(self.bit(s, logp))
-        } else {
-            ReadAnswer::Refused(n)
-        }
+        self.refusal(s.len(), true, (1 <= logp) & (logp <= 15), true, Ok(()))?;
+        Ok(self.bit(s, logp))
     }
 
     // A symbol of a table of 2^ftb places, section 4.1.3.3.
-    pub fn icdf(self, s: &[u8], t: &[u8], ftb: u32) -> ReadAnswer
+    pub fn icdf(self, s: &[u8], t: &[u8], ftb: u32) -> Result<ReadSymbol, Refusal>
         ensures { said result ≡ answer (refusal_r (table t.now ftb) s.now self) (read_sym (table t.now ftb) s.now self) }
     {
-        let n = self.refusal_table(s.len(), t, ftb);
-        if n == 0 {
-            ReadAnswer::Done(self.symbol(s, t, ftb))
-        } else {
-            ReadAnswer::Refused(n)
-        }
+        self.refusal_table(s.len(), t, ftb)?;
+        Ok(self.symbol(s, t, ftb))
     }
 
     // A number below ft, all alike, section 4.1.5.
-    pub fn uint(self, s: &[u8], ft: u32) -> ReadAnswer
+    pub fn uint(self, s: &[u8], ft: u32) -> Result<ReadSymbol, Refusal>
         ensures { said result ≡ answer (refusal_r (uint ft) s.now self) (read_sym (uint ft) s.now self) }
     {
-        let n = self.refusal(s.len(), true, (2 <= ft) & (ft <= 4294967295), true, 0);
-        if n == 0 {
-            ReadAnswer::Done(self.uniform(s, ft))
-        } else {
-            ReadAnswer::Refused(n)
-        }
+        self.refusal(s.len(), true, (2 <= ft) & (ft <= 4294967295), true, Ok(()))?;
+        Ok(self.uniform(s, ft))
     }
 
     // n raw bits from the end of the packet, section 4.1.4.
-    pub fn bits(self, s: &[u8], n: u32) -> ReadAnswer
+    pub fn bits(self, s: &[u8], n: u32) -> Result<ReadSymbol, Refusal>
         ensures { said result ≡ answer (refusal_r (raw n) s.now self) (read_sym (raw n) s.now self) }
     {
-        let no = self.refusal(s.len(), true, (1 <= n) & (n <= 25), true, 0);
-        if no == 0 {
-            ReadAnswer::Done(self.raw(s, n))
-        } else {
-            ReadAnswer::Refused(no)
-        }
+        self.refusal(s.len(), true, (1 <= n) & (n <= 25), true, Ok(()))?;
+        Ok(self.raw(s, n))
     }
 
     // How many bits are used, section 4.1.6.1.
-    pub fn tell(self) -> TellAnswer
-        ensures { said_tell result ≡ tell_said (reader_ok self) (tell_of self.total self.rng) }
+    pub fn tell(self) -> Result<u32, Refusal>
+        ensures { said result ≡ tell_said (reader_ok self) (tell_of self.total self.rng) }
     {
         if self.sound() {
-            TellAnswer::Done(entcode::tell_of(self.total, self.rng))
+            Ok(entcode::tell_of(self.total, self.rng))
         } else {
-            TellAnswer::Refused(1)
+            Err(Refusal::Number)
         }
     }
 
     // How many eighths of a bit are used, section 4.1.6.2.
-    pub fn tell_frac(self) -> TellAnswer
-        ensures { said_tell result ≡ tell_said (reader_ok self) (tell_frac_of self.total self.rng) }
+    pub fn tell_frac(self) -> Result<u32, Refusal>
+        ensures { said result ≡ tell_said (reader_ok self) (tell_frac_of self.total self.rng) }
     {
         if self.sound() {
-            TellAnswer::Done(entcode::tell_frac_of(self.total, self.rng))
+            Ok(entcode::tell_frac_of(self.total, self.rng))
         } else {
-            TellAnswer::Refused(1)
+            Err(Refusal::Number)
         }
     }
 }

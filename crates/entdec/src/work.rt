@@ -1,4 +1,6 @@
 // The reads of a state that is known to be good: RFC 6716, sections 4.1.2 to 4.1.5. They test nothing; the public calls do.
+// `Ready` is of so many symbols to come, another count in each contract, so that it is no invariant of a reader, of which any numbers are handed in.
+// Bounds on single numbers stand in each contract: a type for one would be made at each call and opened at each sum.
 ghost use Rattle.std.specs.Prelude.{◌≡◌, true, ◌-◌, ◌/◌, ◌^◌, ◌≤◌, ◌<◌, length};
 ghost use Rattle.entcode.specs.Range.{renorm_steps};
 ghost use Rattle.entcode.specs.Sym.{falls, flat_model};
@@ -52,7 +54,7 @@ impl Reader {
         ensures { (result ≡ decoded_place ft self) × (result < ft) }
     {
         let k = self.val / (self.rng / ft) + 1;
-        if k < ft { ft - k } else { 0 }
+        ft - k.min(ft)
     }
 
     // Section 4.1.2, second step: the symbol of the places fl up to fh of ft is taken, among which the value shows one.
@@ -103,6 +105,7 @@ impl Reader {
         let mut k = 0;
         let mut hi = self.rng;
         let mut lo = q * laws::wide(t[0]);
+        // The last entry is 0, so the walk needs no test of its index, which a `for` over the table would make, and no answer after its end.
         while v < lo {
             hi = lo;
             k += 1;

@@ -8,5 +8,5 @@ pub mod Chain
 pub mod Stays
 pub mod Sticky
 pub mod Alike
-pub mod Said
 pub mod Promises
+pub mod Long

@@ -16,7 +16,7 @@ use Rattle.entenc.specs.Rule.{writer_ok, refusal_w, refusal_close}
 use Rattle.entenc.specs.Answer.{answer_w}
 use Rattle.entenc.specs.Promises.{says_no, RefusedChangesNothing, LengthStays, NewAccepted, HasPlaces, StaysAccepted, AllTaken, AcceptedFromNew}
 use Rattle.entenc.specs.Promises.{ClosedAccepted, MarkStays, TellsAlike}
-use Rattle.entenc.proofs.Said.{writing-long, closing-long}
+use Rattle.entenc.proofs.Long.{writing-long, closing-long}
 use Rattle.entenc.proofs.Stays.{Paid, paid-new, fresh_ok, accepted_within, accepted_paid, close_accepted}
 use Rattle.entenc.proofs.Sticky.{sym-keeps, close-keeps}
 use Rattle.entenc.proofs.Alike.{sym-alike}

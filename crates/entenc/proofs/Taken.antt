@@ -1,4 +1,5 @@
 -- What number 0 tells of a call, and a checked call's two answers. Assumes nothing.
+use Rattle.std.specs.Prelude.{Ok}
 use Prim.Native.Nat.{ℕ, zero, suc, ◌+◌, ◌^◌, ◌<◌, ◌≤◌}
 use mathlib.Core.Path.{◌≡◌, refl, ap, sym, ◌∙◌}
 use mathlib.Core.Bool.{Bool, true, ◌&&◌, and-eq-true_iff}
@@ -15,10 +16,10 @@ use Rattle.entcode.specs.Sym.Shape.{bit, table, uint, raw}
 use Rattle.entcode.proofs.Rule.{Counts, counts, counts-ok}
 use Rattle.entcode.proofs.Refusals.{passed}
 use Rattle.entenc.specs.declared.Writer.{Writer}
-use Rattle.entenc.specs.declared.WriteAnswer.TheVariants.{Done, Refused}
 use Rattle.entenc.specs.Write.{Wr}
 use Rattle.entenc.specs.Rule.{writer_ok, is_open, write_refusal, refusal_w, refusal_close}
 use Rattle.entenc.specs.Answer.{after, answer_w}
+use Rattle.entenc.specs.Promises.{says_no}
 use Rattle.entenc.specs.Ready.{Sound, Ready}
 
 -- ---- the rule of a writer, as facts
@@ -178,22 +179,22 @@ close_needs n w e z =
 -- ---- the two answers, n being what the gate gave
 
 -- number 0
-next-is : (k : ℕ) (w v : Wr) → k ≡ 0 → after (Done v.st) v.bytes ≡ answer_w k w v
+next-is : (k : ℕ) (w v : Wr) → k ≡ 0 → after (Ok v.st) v.bytes ≡ answer_w k w v
 unfolding answer lent_after
 next-is zero w v h = refl
 next-is (suc k) w v h = absurd (suc-ne-zero k h)
 
 -- any other number
-no_is : (k : ℕ) (w v : Wr) → (k ≡ 0 → ⊥) → after (Refused k) w.bytes ≡ answer_w k w v
+no_is : (k : ℕ) (w v : Wr) → (k ≡ 0 → ⊥) → says_no k w ≡ answer_w k w v
 unfolding answer lent_after
 no_is zero w v h = absurd (h refl)
 no_is (suc k) w v h = refl
 
 module _ (n k : ℕ) (w v : Wr) (e : n ≡ k) where
   -- the worker ran: its writer and bytes
-  pub say-next : (w' : Wr) → n ≡ 0 → w' ≡ v → after (Done w'.st) w'.bytes ≡ answer_w k w v
+  pub say-next : (w' : Wr) → n ≡ 0 → w' ≡ v → after (Ok w'.st) w'.bytes ≡ answer_w k w v
   say-next w' z h = rw h (next-is k w v (sym e ∙ z))
 
   -- it did not: the number, and the bytes as they were
-  pub say_no : (n ≡ 0 → ⊥) → after (Refused n) w.bytes ≡ answer_w k w v
+  pub say_no : (n ≡ 0 → ⊥) → says_no n w ≡ answer_w k w v
   say_no z = no_is n w v z ∙ ap (λ (i : ℕ). answer_w i w v) e

@@ -1,20 +1,13 @@
 -- What the public calls say, by document 01's number of the refusal and the values, and what the lent bytes then hold.
-use Rattle.std.specs.Prelude.{ℕ, List, cond, leb}
-use Rattle.entcode.specs.Said.{Said, answer, lent_after}
-use Rattle.entcode.specs.Said.Said.{done, refused}
+use Rattle.std.specs.Prelude.{ℕ, List, cond, leb, Result}
+use Rattle.entcode.specs.declared.reasons.Refusal.{Refusal}
+use Rattle.entcode.specs.Said.{Said, answer, lent_after, said}
 use Rattle.entcode.specs.Sym.{Shape}
 use Rattle.entenc.specs.declared.Writer.{Writer}
-use Rattle.entenc.specs.declared.WriteAnswer.{WriteAnswer}
-use Rattle.entenc.specs.declared.WriteAnswer.TheVariants.{Done, Refused}
 use Rattle.entenc.specs.Write.{Wr, fresh_writer}
 use Rattle.entenc.specs.Close.{close_w}
 use Rattle.entenc.specs.Symbols.{write_sym}
 use Rattle.entenc.specs.Rule.{refusal_w, refusal_close}
-
--- what an answer says
-abbrev pub said : WriteAnswer → Said Writer
-said (Done w) = done w
-said (Refused n) = refused n
 
 -- what is said, and the lent bytes after the call
 pub record After : Type 0 where
@@ -22,7 +15,7 @@ pub record After : Type 0 where
   pub bytes : List ℕ
 
 -- the same of an answer and the bytes then lent
-abbrev pub after : WriteAnswer → List ℕ → After
+abbrev pub after : Result Writer Refusal → List ℕ → After
 after r l = record { said = said r; bytes = l }
 
 -- number 0: the writer after the call, with its bytes; any other: that refusal, and the bytes as they were

@@ -1,10 +1,12 @@
 // What a write or a close is refused with: document 01, "When the answer is no".
 ghost use Rattle.std.specs.Prelude.{◌≡◌, true, ◌&&◌, ◌^◌, ltb, leb, eqb, length};
 ghost use Rattle.entcode.specs.Refusal.{refusal};
+ghost use Rattle.entcode.specs.Said.{verdict};
 ghost use Rattle.entcode.specs.Sym.{falls};
 ghost use Rattle.entenc.specs.Rule.{writer_ok, is_open, write_refusal};
 
 use super::Writer;
+use entcode::Refusal;
 
 impl Writer {
     // Does the state keep the rule of a writer? Any numbers are answered.
@@ -29,10 +31,16 @@ impl Writer {
         (s.storage as usize == n) & lengths
     }
 
-    // The number of the refusal of a call that can write symbols, 0 for none. n bytes are lent; lengths, numbers, lists and special are what
-    // the call found.
-    pub fn refusal(self, n: usize, lengths: bool, numbers: bool, lists: bool, special: u32) -> u32
-        ensures { result ≡ write_refusal n self lengths numbers lists special }
+    // The refusal of a call that can write symbols. n bytes are lent; lengths, numbers, lists and special are what the call found.
+    pub fn refusal(
+        self,
+        n: usize,
+        lengths: bool,
+        numbers: bool,
+        lists: bool,
+        special: Result<(), Refusal>,
+    ) -> Result<(), Refusal>
+        ensures { verdict result ≡ write_refusal n self lengths numbers lists (verdict special) }
     {
         let s = self.sink;
         let unclosed = !self.closed;
@@ -42,29 +50,29 @@ impl Writer {
         entcode::refusal_of(sized, sound & numbers, lists, special, unclosed, fits)
     }
 
-    // The number of the refusal of writing the symbol s of a table, 0 for none. The table is read once every length is right.
-    pub fn refusal_table(self, n: usize, s: u32, t: &[u8], ftb: u32) -> u32
-        ensures { result ≡ write_refusal n self (ltb 0 (length t.now)) (leb 1 ftb && leb ftb 8 && ltb s (length t.now))
+    // The refusal of writing the symbol s of a table. The table is read once every length is right.
+    pub fn refusal_table(self, n: usize, s: u32, t: &[u8], ftb: u32) -> Result<(), Refusal>
+        ensures { verdict result ≡ write_refusal n self (ltb 0 (length t.now)) (leb 1 ftb && leb ftb 8 && ltb s (length t.now))
             (falls (2 ^ ftb) t.now) 0 }
     {
         let some = 0 < t.len();
         if self.sized(n, some) {
             let ok = (1 <= ftb) & (ftb <= 8) & ((s as usize) < t.len());
             let falls = entcode::table::table_ok(t, ftb);
-            return self.refusal(n, some, ok, falls, 0);
+            return self.refusal(n, some, ok, falls, Ok(()));
         }
-        2
+        Err(Refusal::Length)
     }
 
-    // The number of the refusal of a close, 0 for none.
-    pub fn refusal_close(self, n: usize) -> u32
-        ensures { result ≡ refusal (eqb self.sink.storage n) (writer_ok self) true 0 (is_open self) true }
+    // The refusal of a close.
+    pub fn refusal_close(self, n: usize) -> Result<(), Refusal>
+        ensures { verdict result ≡ refusal (eqb self.sink.storage n) (writer_ok self) true 0 (is_open self) true }
     {
         let s = self.sink;
         let storage = s.storage as usize;
         let unclosed = !self.closed;
         let sound = self.sound();
-        entcode::refusal_of(storage == n, sound, true, 0, unclosed, true)
+        entcode::refusal_of(storage == n, sound, true, Ok(()), unclosed, true)
     }
 }
 

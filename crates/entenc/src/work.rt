@@ -1,4 +1,5 @@
 // Symbols of the range, unchecked: RFC 6716, sections 5.1.1 to 5.1.4.
+// `Ready` is of so many symbols to come and of the lent bytes, another count in each contract, so that it is no invariant of a writer.
 ghost use Rattle.std.specs.Prelude.{◌≡◌, true, ◌+◌, ◌^◌, ◌<◌, ◌≤◌, length};
 ghost use Rattle.entcode.specs.Range.{renorm_steps, cut_start, cut_width};
 ghost use Rattle.entcode.specs.Sym.{falls};

@@ -1,28 +1,30 @@
--- The gap one byte at a time, and the cases of the last byte. Assumes nothing.
+-- The gap as zeros at once, and the cases of the last byte. Assumes nothing.
 use Prim.Native.Nat.{ℕ, zero, suc, ◌+◌, ◌-◌, ◌%◌, ◌^◌, ◌<◌, ◌≤◌}
-use mathlib.Core.Path.{◌≡◌, refl, ap, ◌∙◌}
+use mathlib.Core.Path.{◌≡◌, sym, ap, ◌∙◌}
 use mathlib.Core.Bool.{true, false}
-use mathlib.Core.List.{List}
-use native.Mathlib.Nat.{not-suc-le-zero}
-use native.Mathlib.Numerals.{sub-one}
-use lib.ListN.{set}
+use mathlib.Core.List.{List, [], ◌∷◌, ◌++◌}
+use native.Mathlib.Numerals.{add-one}
+use native.Mathlib.Omega.{arith}
+use lib.ListN.{length, replicate, set, take, drop, length-set}
+use Rattle.std.proofs.lemmas.List.{append_assoc, drop-drop, drop-set-lt, take-append-drop}
+use lib.Seq.{take-suc-set}
 use borrow.Author.Tests.{le-leb, lt-leb, eq-eqb, ne_eqb}
 use Rattle.entenc_sink.specs.Out.{Out, out, marked}
 use Rattle.entenc_sink.specs.Gap.{zeroed, cleared, merged_byte, busts, finished}
 
 -- ---- the gap
 
--- one zero
-pub zeroed_step : (n a : ℕ) (l : List ℕ) → 0 < n → zeroed n a l ≡ zeroed (n - 1) (a + 1) (set l a 0)
+-- n zeros at once in the place of the n bytes from a on
+pub zeros_at : (n a : ℕ) (l : List ℕ) → a + n ≤ length l → take a l ++ (replicate n 0 ++ drop n (drop a l)) ≡ zeroed n a l
 unfolding zeroed
-zeroed_step zero a l h = absurd (not-suc-le-zero h)
-zeroed_step (suc n) a l h = rw sub-one
-
--- none
-pub zeroed-done : (n a : ℕ) (l : List ℕ) → n ≤ 0 → l ≡ zeroed n a l
-unfolding zeroed
-zeroed-done zero a l h = refl
-zeroed-done (suc n) a l h = absurd (not-suc-le-zero h)
+zeros_at zero a l h = take-append-drop a l
+zeros_at (suc n) a l h =
+    let g : a < length l = omega arith in
+    let k : a + 1 + n ≤ length (set l a 0) = simp length-set (omega arith) in
+    let e : drop n (drop (a + 1) (set l a 0)) ≡ drop (suc n) (drop a l) =
+    ap (drop n) (drop-set-lt (a + 1) l a 0 (omega arith)) ∙ drop-drop n (a + 1) l ∙ rw (drop-drop (suc n) a l) (ap (λ (m : ℕ). drop m l) (omega arith)) in
+    sym (append_assoc (take a l) (0 ∷ []) (replicate n 0 ++ drop (suc n) (drop a l)))
+    ∙ rw (← take-suc-set l a 0 g, ← add-one a, ← e) (zeros_at n (a + 1) (set l a 0) k)
 
 -- ---- the last byte, by its cases
 

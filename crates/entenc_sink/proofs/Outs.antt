@@ -1,9 +1,7 @@
 -- Bytes that go out: the sink stays within its storage; a run, one byte at a time; what settles, by its cases. Assumes nothing.
 use Prim.Native.Nat.{ℕ, zero, suc, ◌+◌, ◌-◌, ◌/◌, ◌%◌, ◌<◌, ◌≤◌}
-use mathlib.Core.Path.{◌≡◌, refl}
+use mathlib.Core.Path.{◌≡◌}
 use mathlib.Core.List.{List, [], ◌∷◌}
-use native.Mathlib.Nat.{not-suc-le-zero}
-use native.Mathlib.Numerals.{sub-one}
 use native.Mathlib.Omega.{arith}
 use lib.Dec.{ltb}
 use lib.ListN.{replicate, length-set}
@@ -46,17 +44,16 @@ flushed-fit (suc k) window o f = flushed-fit k (window / 256) (put_end (window %
 
 -- ---- a run, one byte at a time
 
--- one byte
-pub run_step : (k b : ℕ) (o : Out) → 0 < k → emit (replicate k b) o ≡ emit (replicate (k - 1) b) (put_front b o)
-unfolding emit
-run_step zero b o h = absurd (not-suc-le-zero h)
-run_step (suc k) b o h = rw sub-one
+module _ (b : ℕ) (o : Out) (i n : ℕ) where
+  -- one byte
+  pub run_step : i < n → emit (replicate (n - i) b) o ≡ emit (replicate (n - (i + 1)) b) (put_front b o)
+  unfolding emit
+  run_step h = let e : n - i ≡ suc (n - (i + 1)) = omega arith in rw e
 
--- none
-pub run-done : (k b : ℕ) (o : Out) → k ≤ 0 → o ≡ emit (replicate k b) o
-unfolding emit
-run-done zero b o h = refl
-run-done (suc k) b o h = absurd (not-suc-le-zero h)
+  -- none
+  pub run-done : n ≤ i → emit (replicate (n - i) b) o ≡ o
+  unfolding emit
+  run-done h = let e : n - i ≡ 0 = omega arith in rw e
 
 -- ---- the bytes that settle where c comes: none, or the held byte, if there is one, and then its run
 

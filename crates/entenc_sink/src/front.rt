@@ -1,4 +1,5 @@
 // Bytes at the front of the storage, and the carry that they wait for: RFC 6716, section 5.1.1.2.
+// `Fit` is of a sink with its lent bytes, so that it is no invariant of a sink.
 ghost use Rattle.std.specs.Prelude.{◌≡◌, ◌<◌, ◌≤◌, replicate};
 ghost use Rattle.entenc_sink.specs.Out.{out, put_front, emit};
 ghost use Rattle.entenc_sink.specs.Carry.{lead, settled, held_by, run_by};
@@ -37,10 +38,8 @@ fn put_run(s: Sink, buf: &mut [u8], b: u8, n: u32) -> Sink
     ensures { out result buf.new ≡ emit (replicate n b) (out s buf.old) }
 {
     let mut t = s;
-    let mut k = n;
-    while 0 < k {
+    for _ in 0..n {
         t = put_front(t, buf, b);
-        k -= 1;
     }
     t
 }

@@ -12,13 +12,7 @@ fn clear(buf: &mut [u8], a: usize, n: usize)
     requires { a + n ≤ length buf.old }
     ensures { buf.new ≡ zeroed n a buf.old }
 {
-    let mut i = a;
-    let mut k = n;
-    while 0 < k {
-        buf[i] = 0;
-        i += 1;
-        k -= 1;
-    }
+    buf[a..a + n].fill(0);
 }
 
 // The bits of b set in the byte at a place.

@@ -6,7 +6,8 @@ pub mod front;
 pub mod gap;
 pub mod raw;
 
-// Where bytes go: the lent length, the next place at the front, how many bytes lie at the end, the error mark.
+// Where bytes go: the lent length, the next place at the front, how many bytes lie at the end, the error mark. Places and no slices: the state goes by value
+// and is a list of numbers for C.
 #[derive(Clone, Copy)]
 pub struct Sink {
     pub storage: u32,

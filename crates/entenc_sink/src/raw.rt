@@ -47,15 +47,13 @@ pub fn flush(s: Sink, buf: &mut [u8], window: u32, waiting: u32) -> Flushed
 {
     let mut t = s;
     let mut w = window;
-    let mut n = waiting;
-    while 8 <= n {
+    for _ in 0..waiting / 8 {
         t = put_end(t, buf, (w % 256) as u8);
-        w = w / 256;
-        n -= 8;
+        w /= 256;
     }
     Flushed {
         sink: t,
         window: w,
-        waiting: n,
+        waiting: waiting % 8,
     }
 }

@@ -13,8 +13,7 @@ use Rattle.entenc.specs.Write.{Wr, wr}
 use Rattle.rate_spec.specs.Types.{AllocIn, AllocOut}
 use Rattle.rate.specs.Question.{Lists, alloc_numbers, wishes}
 use Rattle.rate.specs.Answer.{AfterRead, AfterWrite, answer_read, answer_written, reading, writing}
-use Rattle.rate.specs.declared.ReadAllocation.{ReadAllocation}
-use Rattle.rate.specs.declared.WrittenAllocation.{WrittenAllocation}
+use Rattle.rate.specs.Allocations.{ReadAllocation, WrittenAllocation}
 use Rattle.rate.specs.declared.AllocNumbers.{AllocNumbers}
 use Rattle.rate.specs.declared.Wishes.{Wishes}
 use Rattle.gurthapen_answer.specs.Result.{result, result_of}

@@ -8,7 +8,7 @@ use Rattle.entcode.specs.Said.{Said, answer, lent_after}
 use Rattle.entenc.specs.declared.Writer.{Writer}
 use Rattle.entenc.specs.Answer as enc
 use Rattle.laplace.specs.Answer as lap
-use Rattle.laplace.specs.declared.LapDone.{LapDone}
+use Rattle.laplace.specs.Coded.{LapDone}
 use Rattle.cwrs.specs.Answer as words
 use Rattle.cwrs.specs.declared.Found as found
 use Rattle.gurthapen_answer.specs.Result.{also, result, result_of}

@@ -4,8 +4,10 @@ ghost use Rattle.rate.specs.Question.{lists, alloc_numbers, wishes};
 ghost use Rattle.gurthapen_answer.specs.Result as answer;
 ghost use Rattle.gurthapen.specs.Allocation.{reads, writes};
 
-use gurthapen_answer::allocation::{leave_alloc_read, leave_alloc_write};
-use gurthapen_state::load::{is_stored, load_reader, load_writer};
+use entdec::Reader;
+use entenc::Writer;
+use gurthapen_answer::allocation::leave_allocation;
+use gurthapen_state::coder::{Coder, is_stored};
 use rate::{AllocNumbers, Wishes};
 
 // Reads an allocation: the bands go into three lists, coded bands, balance, intensity and dual stereo into shown.
@@ -30,7 +32,7 @@ pub fn gurthapen_compute_allocation_read(
         (lists pulses.old fine.old priorities.old) }
 {
     if is_stored(state) & (shown.len() == 4) {
-        let d = load_reader(state);
+        let d = Reader::load(state);
         let q = AllocNumbers {
             c,
             lm,
@@ -40,7 +42,7 @@ pub fn gurthapen_compute_allocation_read(
             total,
         };
         let a = rate::clt_compute_allocation_read(d, s, q, offsets, caps, pulses, fine, priorities);
-        return leave_alloc_read(a, state, shown);
+        return leave_allocation(a, state, shown);
     }
     2
 }
@@ -71,7 +73,7 @@ pub fn gurthapen_compute_allocation_write(
         state.old shown.old (lists pulses.old fine.old priorities.old) buf.old }
 {
     if is_stored(state) & (shown.len() == 4) {
-        let w = load_writer(state);
+        let w = Writer::load(state);
         let q = AllocNumbers {
             c,
             lm,
@@ -89,7 +91,7 @@ pub fn gurthapen_compute_allocation_write(
         let a = rate::clt_compute_allocation_write(
             w, buf, q, h, offsets, caps, pulses, fine, priorities,
         );
-        return leave_alloc_write(a, state, shown);
+        return leave_allocation(a, state, shown);
     }
     2
 }

@@ -5,8 +5,9 @@ ghost use Rattle.gurthapen_answer.specs.Result as answer;
 ghost use Rattle.gurthapen.specs.Dec.{starts, reads, tells, tells_frac};
 
 use entdec::Reader;
-use gurthapen_answer::dec::{leave_read, leave_start, leave_tell};
-use gurthapen_state::load::{is_stored, load_reader};
+use gurthapen_answer::coder::{leave_coded, leave_coder};
+use gurthapen_answer::numbers::leave_number;
+use gurthapen_state::coder::{Coder, is_stored};
 
 // A new reader of the packet s.
 pub fn gurthapen_dec_new(state: &mut [i64], s: &[u8]) -> u32
@@ -14,7 +15,7 @@ pub fn gurthapen_dec_new(state: &mut [i64], s: &[u8]) -> u32
 {
     if state.len() == 12 {
         let a = Reader::new(s);
-        return leave_start(a, state);
+        return leave_coder(a, state);
     }
     2
 }
@@ -24,9 +25,9 @@ pub fn gurthapen_dec_bit_logp(state: &mut [i64], s: &[u8], logp: u32, value: &mu
     ensures { answer.result result (state.new, value.new) ≡ reads (bit logp) s.now state.old value.old }
 {
     if is_stored(state) & (value.len() == 1) {
-        let d = load_reader(state);
+        let d = Reader::load(state);
         let a = d.bit_logp(s, logp);
-        return leave_read(a, state, value);
+        return leave_coded(a, state, value);
     }
     2
 }
@@ -36,9 +37,9 @@ pub fn gurthapen_dec_icdf(state: &mut [i64], s: &[u8], t: &[u8], ftb: u32, value
     ensures { answer.result result (state.new, value.new) ≡ reads (table t.now ftb) s.now state.old value.old }
 {
     if is_stored(state) & (value.len() == 1) {
-        let d = load_reader(state);
+        let d = Reader::load(state);
         let a = d.icdf(s, t, ftb);
-        return leave_read(a, state, value);
+        return leave_coded(a, state, value);
     }
     2
 }
@@ -48,9 +49,9 @@ pub fn gurthapen_dec_uint(state: &mut [i64], s: &[u8], ft: u32, value: &mut [u32
     ensures { answer.result result (state.new, value.new) ≡ reads (uint ft) s.now state.old value.old }
 {
     if is_stored(state) & (value.len() == 1) {
-        let d = load_reader(state);
+        let d = Reader::load(state);
         let a = d.uint(s, ft);
-        return leave_read(a, state, value);
+        return leave_coded(a, state, value);
     }
     2
 }
@@ -60,9 +61,9 @@ pub fn gurthapen_dec_bits(state: &mut [i64], s: &[u8], n: u32, value: &mut [u32]
     ensures { answer.result result (state.new, value.new) ≡ reads (raw n) s.now state.old value.old }
 {
     if is_stored(state) & (value.len() == 1) {
-        let d = load_reader(state);
+        let d = Reader::load(state);
         let a = d.bits(s, n);
-        return leave_read(a, state, value);
+        return leave_coded(a, state, value);
     }
     2
 }
@@ -72,9 +73,9 @@ pub fn gurthapen_dec_tell(state: &[i64], value: &mut [u32]) -> u32
     ensures { answer.result result value.new ≡ tells state.now value.old }
 {
     if (state.len() == 12) & (value.len() == 1) {
-        let d = load_reader(state);
+        let d = Reader::load(state);
         let t = d.tell();
-        return leave_tell(t, value);
+        return leave_number(t, value);
     }
     2
 }
@@ -84,9 +85,9 @@ pub fn gurthapen_dec_tell_frac(state: &[i64], value: &mut [u32]) -> u32
     ensures { answer.result result value.new ≡ tells_frac state.now value.old }
 {
     if (state.len() == 12) & (value.len() == 1) {
-        let d = load_reader(state);
+        let d = Reader::load(state);
         let t = d.tell_frac();
-        return leave_tell(t, value);
+        return leave_number(t, value);
     }
     2
 }

@@ -3,8 +3,9 @@ ghost use Rattle.std.specs.Prelude.{◌≡◌};
 ghost use Rattle.gurthapen_answer.specs.Result as answer;
 ghost use Rattle.gurthapen.specs.Energies.{coarse_call, finalise_call};
 
-use gurthapen_answer::energies::leave_energies;
-use gurthapen_state::load::{is_stored, load_reader};
+use entdec::Reader;
+use gurthapen_answer::coder::leave_coder;
+use gurthapen_state::coder::{Coder, is_stored};
 
 // The coarse energies of the bands start..end-1, in place.
 pub fn gurthapen_unquant_coarse_energy(
@@ -21,9 +22,9 @@ pub fn gurthapen_unquant_coarse_energy(
         ≡ coarse_call c lm start end intra s.now state.old energies.old }
 {
     if is_stored(state) {
-        let d = load_reader(state);
+        let d = Reader::load(state);
         let a = quant_bands::unquant_coarse_energy(d, s, energies, c, lm, start, end, intra);
-        return leave_energies(a, state);
+        return leave_coder(a, state);
     }
     2
 }
@@ -44,11 +45,11 @@ pub fn gurthapen_unquant_energy_finalise(
         ≡ finalise_call c start end fine.now priorities.now left s.now state.old energies.old }
 {
     if is_stored(state) {
-        let d = load_reader(state);
+        let d = Reader::load(state);
         let a = quant_bands::unquant_energy_finalise(
             d, s, energies, c, start, end, fine, priorities, left,
         );
-        return leave_energies(a, state);
+        return leave_coder(a, state);
     }
     2
 }

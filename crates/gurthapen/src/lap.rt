@@ -3,8 +3,10 @@ ghost use Rattle.std.specs.Prelude.{◌≡◌};
 ghost use Rattle.gurthapen_answer.specs.Result as answer;
 ghost use Rattle.gurthapen.specs.Lap.{decodes, encodes};
 
-use gurthapen_answer::lap::{leave_done, leave_value};
-use gurthapen_state::load::{is_stored, load_reader, load_writer};
+use entdec::Reader;
+use entenc::Writer;
+use gurthapen_answer::coder::leave_coded;
+use gurthapen_state::coder::{Coder, is_stored};
 
 // A Laplace value of the pair fs and decay.
 pub fn gurthapen_laplace_decode(
@@ -17,9 +19,9 @@ pub fn gurthapen_laplace_decode(
     ensures { answer.result result (state.new, value.new) ≡ decodes fs decay s.now state.old value.old }
 {
     if is_stored(state) & (value.len() == 1) {
-        let d = load_reader(state);
+        let d = Reader::load(state);
         let a = laplace::ec_laplace_decode(d, s, fs, decay);
-        return leave_value(a, state, value);
+        return leave_coded(a, state, value);
     }
     2
 }
@@ -37,9 +39,9 @@ pub fn gurthapen_laplace_encode(
         ≡ encodes fs decay z state.old value.old buf.old }
 {
     if is_stored(state) & (value.len() == 1) {
-        let w = load_writer(state);
+        let w = Writer::load(state);
         let a = laplace::ec_laplace_encode(w, buf, z, fs, decay);
-        return leave_done(a, state, value);
+        return leave_coded(a, state, value);
     }
     2
 }

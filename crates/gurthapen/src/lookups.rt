@@ -4,7 +4,7 @@ ghost use Rattle.rate_cache.specs.Lookups.{pulses_at, bits_to_pulses, pulses_to_
 ghost use Rattle.gurthapen_answer.specs.Result as answer;
 ghost use Rattle.gurthapen.specs.Lookups.{looks};
 
-use gurthapen_answer::lookups::leave_lookup;
+use gurthapen_answer::numbers::leave_number;
 
 // The number of pulses that an index of the cache stands for.
 pub fn gurthapen_get_pulses(i: i32, value: &mut [u32]) -> u32
@@ -12,7 +12,7 @@ pub fn gurthapen_get_pulses(i: i32, value: &mut [u32]) -> u32
 {
     if value.len() == 1 {
         let a = rate_cache::get_pulses(i);
-        return leave_lookup(a, value);
+        return leave_number(a, value);
     }
     2
 }
@@ -23,7 +23,7 @@ pub fn gurthapen_bits2pulses(band: i32, lm: i32, bits: i32, value: &mut [u32]) -
 {
     if value.len() == 1 {
         let a = rate_cache::bits2pulses(band, lm, bits);
-        return leave_lookup(a, value);
+        return leave_number(a, value);
     }
     2
 }
@@ -34,7 +34,7 @@ pub fn gurthapen_pulses2bits(band: i32, lm: i32, pulses: i32, value: &mut [u32])
 {
     if value.len() == 1 {
         let a = rate_cache::pulses2bits(band, lm, pulses);
-        return leave_lookup(a, value);
+        return leave_number(a, value);
     }
     2
 }

@@ -3,9 +3,11 @@ ghost use Rattle.std.specs.Prelude.{◌≡◌};
 ghost use Rattle.gurthapen_answer.specs.Result as answer;
 ghost use Rattle.gurthapen.specs.Pulses.{decodes, encodes};
 
-use gurthapen_answer::enc::leave_write;
+use entdec::Reader;
+use entenc::Writer;
+use gurthapen_answer::coder::leave_coder;
 use gurthapen_answer::pulses::leave_found;
-use gurthapen_state::load::{is_stored, load_reader, load_writer};
+use gurthapen_state::coder::{Coder, is_stored};
 
 // A vector of n places and k pulses into the first n of 176 places.
 pub fn gurthapen_decode_pulses(
@@ -20,7 +22,7 @@ pub fn gurthapen_decode_pulses(
         ≡ decodes n k s.now state.old energy.old y.old }
 {
     if is_stored(state) & (energy.len() == 1) {
-        let d = load_reader(state);
+        let d = Reader::load(state);
         let a = cwrs::decode_pulses(d, s, y, n, k);
         return leave_found(a, state, energy);
     }
@@ -32,9 +34,9 @@ pub fn gurthapen_encode_pulses(state: &mut [i64], buf: &mut [u8], y: &[i32], n: 
     ensures { answer.result result (state.new, buf.new) ≡ encodes n k y.now state.old buf.old }
 {
     if is_stored(state) {
-        let w = load_writer(state);
+        let w = Writer::load(state);
         let a = cwrs::encode_pulses(w, buf, y, n, k);
-        return leave_write(a, state);
+        return leave_coder(a, state);
     }
     2
 }

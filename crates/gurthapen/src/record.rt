@@ -4,8 +4,10 @@ ghost use Rattle.stream.specs.Frame.{ordered};
 ghost use Rattle.gurthapen_answer.specs.Result as answer;
 ghost use Rattle.gurthapen.specs.Record.{freshes, frames, saves, restores};
 
-use gurthapen_answer::record::{leave_frame, leave_line, leave_restored};
-use gurthapen_state::load::{is_stored, load_reader};
+use entdec::Reader;
+use gurthapen_answer::numbers::{leave_number, verdict};
+use gurthapen_answer::record::{leave_frame, leave_restored};
+use gurthapen_state::coder::{Coder, is_stored};
 use gurthapen_state::record::{load_record, store_record};
 use stream::Record;
 
@@ -25,7 +27,7 @@ pub fn gurthapen_record_fresh(energies: &mut [f32], next: &mut [u64]) -> u32
 pub fn gurthapen_record_order(next: u64, number: u64) -> u32
     ensures { result ≡ ordered next number }
 {
-    stream::order(next, number)
+    verdict(stream::order(next, number))
 }
 
 // Frame `number`, whose coarse energies the state stands before in the packet s. The record is read once every length is right.
@@ -45,7 +47,7 @@ pub fn gurthapen_record_frame(
         ≡ frames s.now number c lm start end intra energies.old next.old state.old }
 {
     if (energies.len() == 42) & (next.len() == 1) & is_stored(state) {
-        let d = load_reader(state);
+        let d = Reader::load(state);
         if d.sized(s.len(), true) {
             let rec = load_record(energies, next[0]);
             let y = rec.frame(d, s, number, c, lm, start, end, intra);
@@ -71,7 +73,7 @@ pub fn gurthapen_record_save(
         }
         let rec = load_record(energies, next);
         let a = stream_saved::save(rec, buf);
-        return leave_line(a, length);
+        return leave_number(a, length);
     }
     2
 }

@@ -3,7 +3,7 @@ ghost use Rattle.std.specs.Prelude.{◌≡◌};
 ghost use Rattle.gurthapen_answer.specs.Result as answer;
 ghost use Rattle.gurthapen.specs.Requests.{answers_line};
 
-use gurthapen_answer::requests::leave_listed;
+use gurthapen_answer::numbers::leave_number;
 
 // The answer to a request line of this number, at the front of out.
 pub fn gurthapen_list(line: &[u8], number: u32, out: &mut [u8], length: &mut [usize]) -> u32
@@ -11,7 +11,7 @@ pub fn gurthapen_list(line: &[u8], number: u32, out: &mut [u8], length: &mut [us
 {
     if length.len() == 1 {
         let a = lister_answer::list(line, number, out);
-        return leave_listed(a, length);
+        return leave_number(a, length);
     }
     2
 }

@@ -4,8 +4,9 @@ ghost use Rattle.vq.specs.Answer.{shape_request};
 ghost use Rattle.gurthapen_answer.specs.Result as answer;
 ghost use Rattle.gurthapen.specs.Shapes.{unquants};
 
+use entdec::Reader;
 use gurthapen_answer::shapes::leave_shape;
-use gurthapen_state::load::{is_stored, load_reader};
+use gurthapen_state::coder::{Coder, is_stored};
 
 // A shape of n places and k pulses with that gain; its collapse mask goes into mask.
 pub fn gurthapen_alg_unquant(
@@ -23,7 +24,7 @@ pub fn gurthapen_alg_unquant(
         ≡ unquants (shape_request n k spread b gain) s.now state.old mask.old shape.old }
 {
     if is_stored(state) & (mask.len() == 1) {
-        let d = load_reader(state);
+        let d = Reader::load(state);
         let a = vq::alg_unquant(d, s, shape, n, k, spread, b, gain);
         return leave_shape(a, state, mask);
     }

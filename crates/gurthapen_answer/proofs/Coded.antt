@@ -15,7 +15,3 @@ module _ {A : Type 0} (v before : A) where
   unfolding answer result_of
   uncoded zero h = absurd (h refl)
   uncoded (suc n) h = refl
-
--- two lists that are written
-pub paired : {A B : Type 0} {x x' : A} {y y' : B} → x ≡ x' → y ≡ y' → ◌≡◌ {A = A × B} (x, y) (x', y')
-paired p q = λ i. (p i, q i)

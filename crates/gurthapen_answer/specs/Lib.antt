@@ -1,5 +1,6 @@
 -- What an answer leaves in the lists that a call was lent: one shape for all, and what each kind of answer says.
 pub mod Result
+pub mod Coder
 pub mod Dec
 pub mod Enc
 pub mod Lap

@@ -8,8 +8,8 @@ also (Said.done v) w = Said.done (v, w)
 also (Said.refused n) w = Said.refused n
 
 -- a call that gives one number: a list of it
-abbrev pub lists_number : Said ℕ → Said (List ℕ)
-lists_number a = map_said (λ (n : ℕ). n ∷ []) a
+abbrev pub lists_number : {A : Type 0} → Said A → Said (List A)
+lists_number {A} a = map_said (λ (n : A). n ∷ []) a
 
 -- what it leaves: its number, 0 where it is no refusal, and what the lists then hold
 pub record Result (A : Type 0) : Type 0 where

@@ -2,6 +2,5 @@
 // next number.
 #![tactic(auto)]
 
-pub mod load;
+pub mod coder;
 pub mod record;
-pub mod store;

@@ -1,20 +1,9 @@
 // A stream's record as lent lists: 42 energies, and its next frame number.
+// Reading and writing are two computations, of which one undoes the other.
 ghost use Rattle.std.specs.Prelude.{◌≡◌, length};
 ghost use Rattle.gurthapen_state.specs.Record.{record_of, lists_of};
 
 use stream::Record;
-
-// The energies of one list in another of its length.
-fn copy(from: &[f32], to: &mut [f32])
-    requires { length to.old ≡ length from.now }
-    ensures { to.new ≡ from.now }
-{
-    let mut i: usize = 0;
-    while i < from.len() {
-        to[i] = from[i];
-        i += 1;
-    }
-}
 
 // The record of 42 energies and a next number.
 pub fn load_record(energies: &[f32], next: u64) -> Record
@@ -23,7 +12,7 @@ pub fn load_record(energies: &[f32], next: u64) -> Record
 {
     let fresh = Record::fresh();
     let mut e = fresh.energies;
-    copy(energies, &mut e);
+    e.copy_from_slice(energies);
     Record { energies: e, next }
 }
 
@@ -32,7 +21,6 @@ pub fn store_record(energies: &mut [f32], next: &mut [u64], rec: Record)
     requires { (length energies.old ≡ 42) × (length next.old ≡ 1) }
     ensures { (energies.new, next.new) ≡ lists_of rec }
 {
-    let e = rec.energies;
-    copy(&e, energies);
+    energies.copy_from_slice(&rec.energies);
     next[0] = rec.next;
 }

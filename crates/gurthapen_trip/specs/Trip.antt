@@ -5,8 +5,8 @@ use Rattle.entcode.specs.Said.{Said}
 use Rattle.entcode.specs.Said.Said.{done, refused}
 use Rattle.trip_call.specs.declared.Call.{Call}
 use Rattle.trip_call.specs.declared.Call.TheVariants as call
-use Rattle.trip_call.specs.declared.Outcome.{Outcome}
-use Rattle.trip_call.specs.declared.Outcome.TheVariants as outcome
+use Rattle.trip_call.specs.Outcome.{Ending}
+use Rattle.trip_call.specs.Outcome.Ending.{agreed, refused_by as call_refused, not_closed, disagreed}
 
 -- the four as a list
 abbrev pub four : ℕ → ℕ → ℕ → ℕ → List ℕ
@@ -19,14 +19,14 @@ refused_by (call.Symbol i) n = four 2 1 i n
 refused_by call.Allocation n = four 2 2 0 n
 refused_by call.Close n = four 2 3 0 n
 
--- any outcome
-abbrev pub outcome_numbers : Outcome → List ℕ
-outcome_numbers outcome.Agreed = four 0 0 0 0
-outcome_numbers (outcome.Refused by n) = refused_by by n
-outcome_numbers outcome.NotClosed = four 1 0 0 0
-outcome_numbers outcome.Disagreed = four 3 0 0 0
+-- any ending
+abbrev pub outcome_numbers : Ending → List ℕ
+outcome_numbers agreed = four 0 0 0 0
+outcome_numbers (call_refused by n) = refused_by by n
+outcome_numbers not_closed = four 1 0 0 0
+outcome_numbers disagreed = four 3 0 0 0
 
 -- the list after a trip that says this; a refused one leaves it as it was
-abbrev pub after_trip : Said Outcome → List ℕ → List ℕ
+abbrev pub after_trip : Said Ending → List ℕ → List ℕ
 after_trip (done o) before = outcome_numbers o
 after_trip (refused n) before = before

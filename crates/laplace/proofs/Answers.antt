@@ -1,4 +1,5 @@
 -- What the workers' values come to, and the two answers of each public call by the number. Assumes nothing.
+use Rattle.std.specs.Prelude.{Ok}
 use Prim.Native.Nat.{ℕ, zero, suc, ◌/◌}
 use mathlib.Core.Path.{◌≡◌, ap, sym, ◌∙◌}
 use mathlib.Core.Bool.{Bool, true, ◌&&◌}
@@ -9,7 +10,8 @@ use lib.IntN.{ℤ}
 use lib.ListN.{length}
 use Rattle.modes.specs.Laplace.{legal}
 use Rattle.modes.proofs.Laplace.{Legal}
-use Rattle.entcode.specs.Said.{answer, lent_after}
+use Rattle.entcode.specs.Said.Said.{refused}
+use Rattle.entcode.specs.Said.{answer, lent_after, said}
 use Rattle.entcode.specs.Sym.{pieces_of, adjust, length_ok, shape_ok, list_ok, value_ok}
 use Rattle.entdec.specs.declared.Reader.{Reader}
 use Rattle.entdec.specs.Read.{decoded_place, update}
@@ -24,16 +26,13 @@ use Rattle.entenc.specs.Symbols.{write_pieces}
 use Rattle.entenc.specs.Rule.{write_refusal, refusal_w}
 use Rattle.entenc.specs.Ready.{Ready as Writable}
 use Rattle.entenc.proofs.Taken.{ready_of, taken}
-use Rattle.laplace.specs.declared.LapSym.{LapSym}
-use Rattle.laplace.specs.declared.LapRead.TheVariants as got
-use Rattle.laplace.specs.declared.LapWrote.TheVariants as wrote
-use Rattle.laplace.specs.declared.LapDone.{LapDone}
+use Rattle.laplace.specs.Coded.{LapSym, LapDone}
 use Rattle.laplace.specs.declared.chain.Span.{Span}
 use Rattle.laplace.specs.Chain.{locate}
 use Rattle.laplace.specs.Signed.{in_domain, value_in, span_z, adjusted}
 use Rattle.laplace.specs.Pairs.{pair_known}
 use Rattle.laplace.specs.Model.{code_of, value_at, lap_model}
-use Rattle.laplace.specs.Answer.{lap, read_lap, said_read, written_as, write_lap, after, answer_w, writing}
+use Rattle.laplace.specs.Answer.{lap, read_lap, written_as, write_lap, after, answer_w, writing}
 use Rattle.laplace.proofs.Known.{known-legal}
 use Rattle.laplace.proofs.Values.{value_code, domain_code}
 use Rattle.laplace.proofs.Lawful.{place_span, adjust-places}
@@ -61,13 +60,13 @@ read_needs fs dec s d n e z =
     (sound_ready 1 d o.state (omega arith), known-legal fs dec o.known)
 
 -- number 0: what was read
-pub said_got : (n k : ℕ) (y y' : LapSym) → n ≡ k → n ≡ 0 → y ≡ y' → said_read (got.Done y) ≡ answer k y'
+pub said_got : (n k : ℕ) (y y' : LapSym) → n ≡ k → n ≡ 0 → y ≡ y' → said (Ok y) ≡ answer k y'
 unfolding answer
 said_got n zero y y' e z h = rw h
 said_got n (suc k) y y' e z h = absurd (suc-ne-zero k (sym e ∙ z))
 
 -- any other: the refusal
-pub said-refused : (n k : ℕ) (y : LapSym) → n ≡ k → (n ≡ 0 → ⊥) → said_read (got.Refused n) ≡ answer k y
+pub said-refused : (n k : ℕ) (y : LapSym) → n ≡ k → (n ≡ 0 → ⊥) → refused n ≡ answer k y
 unfolding answer
 said-refused n zero y e z = absurd (z e)
 said-refused n (suc k) y e z = rw e
@@ -108,19 +107,19 @@ module _ (fs dec : ℕ) (z : ℤ) where
 
 -- number 0: what counts as written, and the bytes after it
 next_w : (n k : ℕ) (v : ℤ) (y : LapDone) (w w' : Wr) (l : List ℕ) → n ≡ k → n ≡ 0 → y.value ≡ v → wr y.next l ≡ w'
-    → after (wrote.Done y) l ≡ answer_w k v w w'
+    → after (Ok y) l ≡ answer_w k v w w'
 unfolding answer lent_after
 next_w n zero v y w w' l e z p q = rw (sym p, sym q)
 next_w n (suc k) v y w w' l e z p q = absurd (suc-ne-zero k (sym e ∙ z))
 
 -- z is the value as it was handed on
 pub said-next : (fs dec : ℕ) (z z' : ℤ) (w : Wr) (n : ℕ) (y : LapDone) (l : List ℕ) → z ≡ z' → n ≡ refusal_w (lap fs dec) (code_of z') w → n ≡ 0
-    → y.value ≡ written_as fs dec z → wr y.next l ≡ write_lap fs dec z w → after (wrote.Done y) l ≡ writing fs dec z' w
+    → y.value ≡ written_as fs dec z → wr y.next l ≡ write_lap fs dec z w → after (Ok y) l ≡ writing fs dec z' w
 said-next fs dec z z' w n y l t e h p q =
     next_w n _ _ y w _ l e h (p ∙ ap (λ (x : ℤ). written_as fs dec x) t) (q ∙ ap (λ (x : ℤ). write_lap fs dec x w) t)
 
 -- any other: the refusal, and the bytes as they were
-pub said_no : (n k : ℕ) (v : ℤ) (w w' : Wr) → n ≡ k → (n ≡ 0 → ⊥) → after (wrote.Refused n) w.bytes ≡ answer_w k v w w'
+pub said_no : (n k : ℕ) (v : ℤ) (w w' : Wr) → n ≡ k → (n ≡ 0 → ⊥) → record { said = refused n; bytes = w.bytes } ≡ answer_w k v w w'
 unfolding answer lent_after
 said_no n zero v w w' e z = absurd (z e)
 said_no n (suc k) v w w' e z = rw e

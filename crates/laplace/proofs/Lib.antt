@@ -6,5 +6,4 @@ pub mod Known
 pub mod Looked
 pub mod Lawful
 pub mod Answers
-pub mod Said
 pub mod Promises

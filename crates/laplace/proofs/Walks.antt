@@ -4,7 +4,7 @@ use mathlib.Core.Path.{◌≡◌, refl, sym, ◌∙◌}
 use mathlib.Core.Bool.{Bool, true, false, ◌&&◌, and-eq-true_iff}
 use lib.Dec.{ltb}
 use native.Mathlib.Omega.{arith}
-use borrow.Author.Tests.{ltb-true, ltb-false}
+use borrow.Author.Tests.{ltb-true, ltb-false, lt-ltb, le-ltb}
 use Rattle.laws.proofs.Tests.{split_on, by_le}
 use Rattle.modes.specs.Laplace.{runs_out}
 use Rattle.modes.proofs.Laplace.{Legal, runs_out-next, runs_out-zero, runs_out-room, runs_out-after}
@@ -29,6 +29,18 @@ on_some more s t = ltb-true 0 s.f ((and-eq-true_iff (ltb 0 s.f) (more s)).0 t).0
 pub on_more : (more : Step → Bool) (s : Step) → goes_on more s ≡ true → more s ≡ true
 on_more more s t = ((and-eq-true_iff (ltb 0 s.f) (more s)).0 t).1
 
+-- it goes on where there is more to do and f is not 0
+pub on_here : (more : Step → Bool) (s : Step) → 0 < s.f → more s ≡ true → goes_on more s ≡ true
+on_here more s p e = (and-eq-true_iff (ltb 0 s.f) (more s)).1 (lt-ltb 0 s.f p, e)
+
+-- not where there is no more to do
+pub off_here : (more : Step → Bool) (s : Step) → more s ≡ false → goes_on more s ≡ false
+off_here more s e = split_on (ltb 0 s.f) (λ p. rw (p, e) refl) (λ p. rw p refl)
+
+-- nor where f is 0
+pub off_end : (more : Step → Bool) (s : Step) → s.f ≤ 0 → goes_on more s ≡ false
+off_end more s n = rw (le-ltb 0 s.f n) refl
+
 -- a walk that goes on is a step and what is left of it
 pub walk_step : (more : Step → Bool) (k dec : ℕ) (s : Step) → goes_on more s ≡ true → walk more (suc k) dec s ≡ walk more k dec (next_step dec s)
 unfolding walk
@@ -49,25 +61,28 @@ ends-within k dec s e =
 
 -- ---- a walk under way: what is left from s gives what all gave from s₀. The counter i says how many steps are left.
 
--- the loop's invariant
-pub record On (more : Step → Bool) (dec : ℕ) (s₀ s : Step) : Type 0 where
+-- a step that a walk comes to, whatever it looks for
+pub record Along (dec : ℕ) (s : Step) : Type 0 where
   pub low : 1 ≤ s.i
   pub high : s.i ≤ 33
   pub ended : Ends (33 - s.i) dec s
-  pub same : walk more (33 - s.i) dec s ≡ walk more 32 dec s₀
 
--- it holds at the first step
-pub on_first : (more : Step → Bool) (fs dec : ℕ) → Legal fs dec → On more dec (first_step fs dec) (first_step fs dec)
-on_first more fs dec f = record { low = omega arith; high = omega arith; ended = f.ended; same = refl }
+-- what is left of a walk from s on gives what the whole gave
+abbrev pub Left : (Step → Bool) → ℕ → Step → Step → Type 0
+Left more dec s₀ s = walk more (33 - s.i) dec s ≡ walk more 32 dec s₀
 
-module _ (more : Step → Bool) (dec : ℕ) (s₀ s : Step) (o : On more dec s₀ s) where
+-- the first step is one
+pub along_first : (fs dec : ℕ) → Legal fs dec → Along dec (first_step fs dec)
+along_first fs dec f = record { low = omega arith; high = omega arith; ended = f.ended }
+
+module _ (dec : ℕ) (s : Step) (o : Along dec s) where
   -- the step's places lie within the 32,768
-  pub on_within : s.fl + 2 * s.f + 2 ≤ 32768
-  on_within = ends-within (33 - s.i) dec s o.ended
+  pub along_within : s.fl + 2 * s.f + 2 ≤ 32768
+  along_within = ends-within (33 - s.i) dec s o.ended
 
   -- while f is not 0, a step is left
-  left : 0 < s.f → 33 - s.i ≡ suc (33 - (s.i + 1))
-  left p =
+  one_left : 0 < s.f → 33 - s.i ≡ suc (33 - (s.i + 1))
+  one_left p =
       by_le 33 s.i
       (λ h.
       let e : 33 - s.i ≡ 0 = omega arith in
@@ -76,21 +91,23 @@ module _ (more : Step → Bool) (dec : ℕ) (s₀ s : Step) (o : On more dec s�
       (λ h. omega arith)
 
   -- so there are at most 32
-  pub on_high : 0 < s.f → s.i ≤ 32
-  on_high p = let e = left p in omega arith
+  pub along_high : 0 < s.f → s.i ≤ 32
+  along_high p = let e = one_left p in omega arith
 
-  -- a step keeps it
-  pub on_next : goes_on more s ≡ true → On more dec s₀ (next_step dec s)
-  on_next t =
-      let p = on_some more s t in
-      let e = left p in
+  -- the next step is one too
+  pub along_next : 0 < s.f → Along dec (next_step dec s)
+  along_next p =
+      let e = one_left p in
       record {
         low = omega arith;
         high = omega arith;
         ended = runs_out-next dec (33 - (s.i + 1)) s.fl s.f p (rw e at o.ended);
-        same = sym (walk_step more (33 - (s.i + 1)) dec s t) ∙ (rw e at o.same);
       }
 
-  -- where the loop ends, the walk does
-  pub on_done : goes_on more s ≡ false → s ≡ walk more 32 dec s₀
-  on_done t = sym (walk-done more (33 - s.i) dec s t) ∙ o.same
+  -- a step leaves the rest of the walk
+  pub left_next : (more : Step → Bool) (s₀ : Step) → goes_on more s ≡ true → Left more dec s₀ s → Left more dec s₀ (next_step dec s)
+  left_next more s₀ t h = let e = one_left (on_some more s t) in sym (walk_step more (33 - (s.i + 1)) dec s t) ∙ (rw e at h)
+
+-- where a walk goes on no more, nothing is left of it
+pub left_done : (more : Step → Bool) (dec : ℕ) (s₀ s : Step) → goes_on more s ≡ false → Left more dec s₀ s → s ≡ walk more 32 dec s₀
+left_done more dec s₀ s t h = sym (walk-done more (33 - s.i) dec s t) ∙ h

@@ -1,7 +1,7 @@
 -- What the two calls say, by document 01's number of the refusal and the values, and what the lent bytes then hold.
-use Rattle.std.specs.Prelude.{ℕ, List, ℤ}
-use Rattle.entcode.specs.Said.{Said, answer, lent_after}
-use Rattle.entcode.specs.Said.Said.{done, refused}
+use Rattle.std.specs.Prelude.{ℕ, List, ℤ, Result}
+use Rattle.entcode.specs.declared.reasons.Refusal.{Refusal}
+use Rattle.entcode.specs.Said.{Said, answer, lent_after, said}
 use Rattle.entcode.specs.Sym.{Shape, adjust}
 use Rattle.entcode.specs.Sym.Shape.{modelled}
 use Rattle.entdec.specs.declared.Reader.{Reader}
@@ -10,12 +10,7 @@ use Rattle.entdec.specs.Rule.{refusal_r}
 use Rattle.entenc.specs.Write.{Wr}
 use Rattle.entenc.specs.Symbols.{write_sym}
 use Rattle.entenc.specs.Rule.{refusal_w}
-use Rattle.laplace.specs.declared.LapSym.{LapSym}
-use Rattle.laplace.specs.declared.LapRead.{LapRead}
-use Rattle.laplace.specs.declared.LapRead.TheVariants as got
-use Rattle.laplace.specs.declared.LapDone.{LapDone}
-use Rattle.laplace.specs.declared.LapWrote.{LapWrote}
-use Rattle.laplace.specs.declared.LapWrote.TheVariants as wrote
+use Rattle.laplace.specs.Coded.{LapSym, LapDone}
 use Rattle.laplace.specs.Model.{code_of, value_at, lap_model}
 
 -- the kind of symbol of a pair
@@ -27,11 +22,6 @@ lap fs dec = modelled (lap_model fs dec)
 -- a value read, and the reader after it
 abbrev pub read_lap : ℕ → ℕ → List ℕ → Reader → LapSym
 read_lap fs dec s d = record { value = value_at (read_sym (lap fs dec) s d).value; next = (read_sym (lap fs dec) s d).next }
-
--- what an answer of a read says
-abbrev pub said_read : LapRead → Said LapSym
-said_read (got.Done y) = done y
-said_read (got.Refused n) = refused n
 
 -- a checked read
 abbrev pub reading : ℕ → ℕ → List ℕ → Reader → Said LapSym
@@ -47,19 +37,14 @@ written_as fs dec z = value_at (adjust (lap fs dec) (code_of z))
 abbrev pub write_lap : ℕ → ℕ → ℤ → Wr → Wr
 write_lap fs dec z w = write_sym (lap fs dec) (code_of z) w
 
--- what an answer of a write says
-abbrev pub said_wrote : LapWrote → Said LapDone
-said_wrote (wrote.Done y) = done y
-said_wrote (wrote.Refused n) = refused n
-
 -- what is said, and the lent bytes after the call
 pub record After : Type 0 where
   pub said : Said LapDone
   pub bytes : List ℕ
 
 -- made of its two parts
-abbrev pub after : LapWrote → List ℕ → After
-after r l = record { said = said_wrote r; bytes = l }
+abbrev pub after : Result LapDone Refusal → List ℕ → After
+after r l = record { said = said r; bytes = l }
 
 -- number 0: what counts as written and the writer after it, with its bytes; any other: that refusal, and the bytes as they were
 abbrev pub answer_w : ℕ → ℤ → Wr → Wr → After

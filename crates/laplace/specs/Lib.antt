@@ -3,6 +3,7 @@ pub mod Chain
 pub mod Signed
 pub mod Pairs
 pub mod Model
+pub mod Coded
 pub mod Answer
 pub mod Rows
 pub mod Promises

@@ -1,9 +1,11 @@
 // The places of Laplace values, RFC 6716, section 4.3.2.1, for a pair that makes a model.
-ghost use Rattle.std.specs.Prelude.{◌≡◌, true, ◌+◌, ◌*◌, ◌≤◌, ◌<◌};
+// A pair stays two numbers, as calls and theorems have it, so that `legal` stands in each contract: a struct would be made and opened in each function.
+ghost use Rattle.std.specs.Prelude.{◌≡◌, Bool, true, ◌+◌, ◌*◌, ◌≤◌, ◌<◌};
 ghost use Rattle.modes.specs.Laplace.{freq1, legal};
-ghost use Rattle.laplace.specs.Chain.{first_step, next_step, walk, up_to, past, side, values_with_place, span_at, span_of, side_at, locate_at, locate, Proper};
+ghost use Rattle.laplace.specs.Chain.{first_step, next_step, walk, side, values_with_place, span_at, span_of, side_at, locate_at, locate, Proper};
 ghost use Rattle.laplace.specs.Signed.{span_z};
 
+// No invariant: `first_step` and `next_step`, and the theorems over `walk`, make this record of any numbers.
 // The places of -i and i begin at fl, f + 1 for each.
 #[derive(Clone, Copy)]
 pub struct Step {
@@ -56,25 +58,18 @@ impl Step {
     }
 }
 
-// Along the chain to the value a.
-fn walk_to(fs: u32, decay: u32, a: u32) -> Step
-    requires { legal fs decay ≡ true }
-    ensures { result ≡ walk (up_to a) 32 decay (first_step fs decay) }
+// Along the chain for as long as there is `more` to do, at most to its end.
+fn walk<F: Fn(Step) -> bool>(fs: u32, decay: u32, more: F) -> Step
+    requires model { legal fs decay ≡ true }
+    requires asks { (s : Step) → s.fl + 2 * s.f + 2 ≤ 32768 → F.pre more s }
+    ensures { (said : Step → Bool) → ((s : Step) (r : Bool) → s.fl + 2 * s.f + 2 ≤ 32768 → F.post more s r → r ≡ said s)
+        → result ≡ walk said 32 decay (first_step fs decay) }
 {
     let mut s = first_of(fs, decay);
-    while (0 < s.f) & (s.i < a) {
-        s = s.next(decay);
-    }
-    s
-}
-
-// Along the chain to the value that has the place fm.
-fn walk_past(fs: u32, decay: u32, fm: u32) -> Step
-    requires { legal fs decay ≡ true }
-    ensures { result ≡ walk (past fm) 32 decay (first_step fs decay) }
-{
-    let mut s = first_of(fs, decay);
-    while (0 < s.f) & (s.fl + 2 * s.f + 2 <= fm) {
+    while 0 < s.f {
+        if !more(s) {
+            return s;
+        }
         s = s.next(decay);
     }
     s
@@ -125,12 +120,7 @@ impl Step {
             self.side(neg, 0)
         } else {
             let most = values_with_place(neg, self.fl) - 1;
-            let d = a - self.i;
-            if d < most {
-                self.side(neg, d)
-            } else {
-                self.side(neg, most)
-            }
+            self.side(neg, most.min(a - self.i))
         }
     }
 
@@ -161,7 +151,7 @@ pub fn span_by(neg: bool, a: u32, fs: u32, decay: u32) -> Span
     ensures { (result ≡ span_of neg a fs decay) × Proper result }
 {
     if 0 < a {
-        let s = walk_to(fs, decay, a);
+        let s = walk(fs, decay, |s| s.i < a);
         s.coded(neg, a)
     } else {
         Span {
@@ -194,7 +184,7 @@ pub fn locate(fm: u32, fs: u32, decay: u32) -> Span
             fh: fs,
         }
     } else {
-        let s = walk_past(fs, decay, fm);
+        let s = walk(fs, decay, |s| s.fl + 2 * s.f + 2 <= fm);
         s.found(fm)
     }
 }

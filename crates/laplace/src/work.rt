@@ -1,4 +1,5 @@
 // Laplace values of a state and a pair that are known to be good: RFC 6716, section 4.3.2.1. They test nothing; the public calls do.
+// Reading and writing are two computations, of which one undoes the other.
 ghost use Rattle.std.specs.Prelude.{◌≡◌, true};
 ghost use Rattle.modes.specs.Laplace.{legal};
 ghost use Rattle.entdec.specs.Ready.{Ready};

@@ -1,32 +1,24 @@
--- Floats: finite values by a comparison with the infinities and by their bit patterns, and whole numbers as f32. Assumes nothing.
+-- Floats: finite values by the library's test and by their bit patterns, and whole numbers as f32. Assumes nothing.
 use Prim.Native.Nat.{ℕ, ◌≤◌, ◌<◌, ◌%◌}
 use mathlib.Core.Path.{◌≡◌, refl, sym, ◌∙◌}
 use mathlib.Core.Bool.{true, false, not}
 use native.Mathlib.Omega.{arith}
 use lib.Dec.{T, le→leb, lt→ltb}
 use lib.IntN.{ℤ, pos, negsuc, nat_abs}
-use lib.Ieee.{Float, nan, inf, fin, lt, binary32, in_float, is_nan, nan_bits, of_bits}
+use lib.Ieee.{Float, nan, inf, fin, binary32, in_float, is_nan, nan_bits, of_bits}
 use lib.Ieee.Bits.{nan_bits_is, nan_bits_above}
 use lib.Ieee.Scale.{finite}
 use borrow.Author.Tests.{lt-ltb, le-ltb}
+use Rattle.std.specs.Float.{float_is_finite}
 
--- ---- compared
+-- ---- tested
 
--- below the infinity: finite where the other infinity is below
-pub finite-below : (x : Float) → lt x (inf false) ≡ true → lt (inf true) x ≡ finite x
-unfolding lt
-finite-below nan h = refl
-finite-below (inf true) h = refl
-finite-below (inf false) h = sym h
-finite-below (fin s m e) h = refl
-
--- not below the infinity: not finite
-pub finite-above : (x : Float) → lt x (inf false) ≡ false → false ≡ finite x
-unfolding lt
-finite-above nan h = refl
-finite-above (inf true) h = refl
-finite-above (inf false) h = refl
-finite-above (fin s m e) h = sym h
+-- `x.is_finite()` is the test
+pub finite-is : (x : Float) → float_is_finite x ≡ finite x
+unfolding float_is_finite
+finite-is nan = refl
+finite-is (inf s) = refl
+finite-is (fin s m e) = refl
 
 -- ---- bit patterns
 

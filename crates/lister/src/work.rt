@@ -128,6 +128,7 @@ pub fn run(
         reader: start,
         pen: text,
     };
+    // `tool_io` counts the turns, and no `for`: `give_up` marks the output as failed only where that count is used up.
     let mut turns = tool_io::all_turns();
     while s.pen.on & tool_io::any_turn(turns) {
         s = turn(block, kept, out, seen, sent, reads, writes, s);

@@ -1,4 +1,6 @@
 -- The answer's parts: the allocation, the reader, the packet, the call, and a line that is too long. Assumes nothing.
+use Rattle.std.specs.Prelude.{Option, Some, None, Result, Ok, Err}
+use Rattle.entcode.specs.declared.reasons.Refusal.{Refusal}
 use Prim.Native.Nat.{ℕ, ◌+◌, ◌/◌, ◌%◌, ◌≤◌, ◌<◌}
 use mathlib.Core.Path.{◌≡◌, refl, sym, ap, ◌∙◌}
 use mathlib.Core.Bool.{Bool, true, false, cond, ◌&&◌, and-eq-true_iff}
@@ -18,28 +20,23 @@ use Rattle.text.specs.Numbers.{bytes_of, hex_bytes}
 use Rattle.text.specs.Written.{PlacedText}
 use Rattle.text.proofs.Values.{and-false}
 use Rattle.entcode.specs.Refusal.{refusal}
-use Rattle.entcode.specs.Said.{answer, lent_after}
+use Rattle.entcode.specs.Said.{answer, lent_after, said}
+use Rattle.entcode.specs.Refusal.{number_of}
 use Rattle.entcode.specs.Said.Said.{done, refused}
 use Rattle.entdec.specs.declared.Reader.{Reader}
-use Rattle.entdec.specs.declared.Started.{Started}
 use Rattle.entdec.specs.Read.{pull, pulls, fresh_reader}
 use Rattle.entdec.specs.Rule.{reader_ok, read_refusal}
-use Rattle.entdec.specs.Answer.{said_start, start_of}
+use Rattle.entdec.specs.Answer.{start_of}
 use Rattle.rate.specs.declared.AllocNumbers.{AllocNumbers}
 use Rattle.rate.specs.Question.{lengths_ok, numbers_ok, refusal_read, no_entries, no_lists}
-use Rattle.rate.specs.Answer.{AfterRead, after_read, reading}
+use Rattle.rate.specs.Answer.{AfterRead, reading}
 use Rattle.rate.proofs.Accepts.{refused-read}
-use Rattle.lister_answer.specs.declared.Packet.{Packet}
-use Rattle.lister_answer.specs.declared.Packet.TheVariants.{Bytes, Bad}
-use Rattle.lister_answer.specs.declared.Listed.TheVariants.{Done, Refused}
 use Rattle.lister_answer.specs.Request.{packet_hex, packet_of, well_formed, request_of, packet_size, packet_into}
 use Rattle.rate_spec.specs.Caps.{cap_of}
 use Rattle.lister_answer.specs.Caps.{caps_of}
 use Rattle.lister_answer.specs.Lines.{refused_line}
 use Rattle.lister_answer.proofs.Requests.{long-malformed}
 use Rattle.lister_answer.specs.Answer.{allocated, listing_of_line, after, listing}
-use Rattle.entdec.specs.declared.Started.TheVariants as started
-use Rattle.rate.specs.declared.AllocRead.TheVariants as alloc
 
 -- ---- the allocation
 
@@ -83,17 +80,17 @@ refused_one q s h =
     (all-sized no_entries (caps_of (clip q.c) (clip q.lm)) no_entries-length (caps-length (clip q.c) (clip q.lm))) h
 
 -- numbers outside their domain are refused as 1
-pub unknown_read : (q : AllocNumbers) (s : List ℕ) → numbers_ok q ≡ false → after_read (alloc.Refused 1) no_lists ≡ allocated q s (fresh_reader s)
+pub unknown_read : (q : AllocNumbers) (s : List ℕ) → numbers_ok q ≡ false → record { said = refused 1; lent = no_lists } ≡ allocated q s (fresh_reader s)
 unfolding allocated
 unknown_read q s h =
-    ap (λ (n : ℕ). after_read (alloc.Refused n) no_lists) (sym (refused_one q s h))
+    ap (λ (n : ℕ). record { said = refused n; lent = no_lists }) (sym (refused_one q s h))
     ∙ refused-read (refusal_read q no_entries (caps_of (clip q.c) (clip q.lm)) no_lists s (fresh_reader s)) _ _ _
     (λ (z : refusal_read q no_entries (caps_of (clip q.c) (clip q.lm)) no_lists s (fresh_reader s) ≡ 0). omega (arith, refused_one q s h))
 
 -- ---- the reader
 
 -- a new reader of a packet that is not too long is the definition's fresh one
-pub new-reader : (s : List ℕ) {d : Reader} {r : Started} → length s ≤ 1275 → said_start r ≡ start_of s → r ≡ started.Done d → d ≡ fresh_reader s
+pub new-reader : (s : List ℕ) {d : Reader} {r : Result Reader Refusal} → length s ≤ 1275 → said r ≡ start_of s → r ≡ Ok d → d ≡ fresh_reader s
 unfolding answer
 new-reader s {d} h p q =
     let e : start_of s ≡ done (fresh_reader s) = rw (le-leb (length s) 1275 h) in
@@ -101,11 +98,11 @@ new-reader s {d} h p q =
     cc
 
 -- and is never refused
-pub new-reader_never_refused : (s : List ℕ) {n : ℕ} {r : Started} → length s ≤ 1275 → said_start r ≡ start_of s → r ≡ started.Refused n → ⊥
+pub new-reader_never_refused : (s : List ℕ) {why : Refusal} {r : Result Reader Refusal} → length s ≤ 1275 → said r ≡ start_of s → r ≡ Err why → ⊥
 unfolding answer
-new-reader_never_refused s {n} h p q =
+new-reader_never_refused s {why} h p q =
     let e : start_of s ≡ done (fresh_reader s) = rw (le-leb (length s) 1275 h) in
-    let f : refused n ≡ start_of s = rw q at p in
+    let f : refused (number_of why) ≡ start_of s = rw q at p in
     let z : ◌≡◌ {A = ℕ} 0 1 = cc in
     omega arith
 
@@ -155,11 +152,11 @@ bytes_in s out h g =
     ∙ take-append_seam (packet_of s) (drop (0 + length (packet_of s)) out)
 
 -- what reading the packet answered, where it answered with a length
-pub packet-read : (s out last : List ℕ) {n : ℕ} {r : Packet} → length out ≡ 1275 → (r ≡ packet_size s) × (last ≡ packet_into s out) → r ≡ Bytes n
+pub packet-read : (s out last : List ℕ) {n : ℕ} {r : Option ℕ} → length out ≡ 1275 → (r ≡ packet_size s) × (last ≡ packet_into s out) → r ≡ Some n
     → PacketRead s n last
 packet-read s out last {n} {r} h p g = go (well_formed s) refl (sym p.0 ∙ g) p.1
   where
-    go : (b : Bool) → well_formed s ≡ b → cond b (Bytes (length (packet_hex s) / 2)) Bad ≡ Bytes n → last ≡ cond b (sets out 0 (packet_of s)) out
+    go : (b : Bool) → well_formed s ≡ b → cond b (Some (length (packet_hex s) / 2)) None ≡ Some n → last ≡ cond b (sets out 0 (packet_of s)) out
         → PacketRead s n last
     go true e f k =
         let m : length (packet_hex s) / 2 ≡ n = cc in
@@ -174,13 +171,13 @@ packet-read s out last {n} {r} h p g = go (well_formed s) refl (sym p.0 ∙ g) p
 -- ---- the call
 
 -- fewer than 1,200 bytes are refused as 2
-pub list-refused : (number : ℕ) (line out : List ℕ) → length out < 1200 → after (Refused 2) out ≡ listing number line out
+pub list-refused : (number : ℕ) (line out : List ℕ) → length out < 1200 → record { said = refused 2; lent = out } ≡ listing number line out
 unfolding listing answer lent_after
 list-refused number line out h = rw (lt-leb 1200 (length out) h)
 
 -- else the text stands at the start of the buffer
 pub list_done : (number : ℕ) (line out : List ℕ) {n : ℕ} {last : List ℕ} → 1200 ≤ length out → PlacedText 1200 out 0 (listing_of_line number line) n last
-    → after (Done n) last ≡ listing number line out
+    → after (Ok n) last ≡ listing number line out
 unfolding listing answer lent_after
 list_done number line out h p =
     let e : 0 + length (listing_of_line number line) ≡ length (listing_of_line number line) = omega arith in

@@ -1,4 +1,5 @@
 -- What a request line asks, by its fields, and what reading its packet answers. Assumes nothing.
+use Rattle.std.specs.Prelude.{Option, Some, None}
 use Prim.Native.Nat.{ℕ, ◌/◌, ◌≤◌, ◌<◌}
 use mathlib.Core.Path.{◌≡◌, refl, sym, ap, ◌∙◌}
 use mathlib.Core.Bool.{Bool, true, false, ◌&&◌, and-eq-true_iff}
@@ -6,32 +7,19 @@ use mathlib.Core.List.{List}
 use lib.Dec.{leb, eqb}
 use lib.ListN.{length}
 use borrow.Author.Tests.{le-leb, lt-leb, eq-eqb, ne_eqb}
-use Rattle.text.specs.declared.Whole.{Whole}
-use Rattle.text.specs.Fields.{fields_of, field_of}
-use Rattle.text.specs.Numbers.{whole_of, hex_bytes, bytes_into}
+use Rattle.text.specs.Fields.{fields_of}
+use Rattle.text.specs.Numbers.{hex_bytes, bytes_into}
 use Rattle.text.proofs.Values.{and-false}
-use Rattle.lister_answer.specs.declared.Parsed.{Parsed}
-use Rattle.lister_answer.specs.declared.Packet.{Packet}
-use Rattle.lister_answer.specs.declared.Packet.TheVariants.{Bytes, Bad}
-use Rattle.lister_answer.specs.Request.{trim_of, total_of, asks_of, packet_hex, request_numbers, well_formed, packet_size, packet_into}
-
--- ---- empty fields
-
--- the six fields, read one by one, are the numbers of the line
-pub numbers-is : (s : List ℕ) (n : ℕ) {c lm st en tr to : Whole} {r : Parsed} → n ≡ length (packet_hex s) / 2
-    → c ≡ whole_of (field_of s 0) → lm ≡ whole_of (field_of s 1) → st ≡ whole_of (field_of s 2) → en ≡ whole_of (field_of s 3)
-    → tr ≡ trim_of (field_of s 4) → to ≡ total_of (field_of s 5) n → r ≡ asks_of c lm st en tr to → r ≡ request_numbers s
-unfolding request_numbers
-numbers-is s n p p0 p1 p2 p3 p4 p5 q = q ∙ rw (p5, p4, p3, p2, p1, p0, p)
+use Rattle.lister_answer.specs.Request.{packet_hex, well_formed, packet_size, packet_into}
 
 -- ---- the packet
 
 -- what reading the packet answers, and the buffer after it
-abbrev pub PacketAnswer : List ℕ → List ℕ → Packet → List ℕ → Type 0
+abbrev pub PacketAnswer : List ℕ → List ℕ → Option ℕ → List ℕ → Type 0
 PacketAnswer s out r last = (r ≡ packet_size s) × (last ≡ packet_into s out)
 
 -- a malformed line has no packet, and the buffer stays
-malformed-answer : (s out : List ℕ) → well_formed s ≡ false → PacketAnswer s out Bad out
+malformed-answer : (s out : List ℕ) → well_formed s ≡ false → PacketAnswer s out None out
 malformed-answer s out e = rw e (refl, refl)
 
 -- a line of more than 2,600 bytes is malformed
@@ -61,26 +49,26 @@ well_formed_lem s h g k =
 
 module _ (s out : List ℕ) where
   -- the packet of a line that is too long
-  pub packet-long : 2600 < length s → PacketAnswer s out Bad out
+  pub packet-long : 2600 < length s → PacketAnswer s out None out
   packet-long h = malformed-answer s out (long-malformed s h)
 
   -- the packet of a line with another count of fields
-  pub packet-fields : {n : ℕ} → n ≡ length (fields_of s) → (n ≡ 7 → ⊥) → PacketAnswer s out Bad out
+  pub packet-fields : {n : ℕ} → n ≡ length (fields_of s) → (n ≡ 7 → ⊥) → PacketAnswer s out None out
   packet-fields e h = malformed-answer s out (fields-malformed s (λ z. h (e ∙ z)))
 
   module _ (size : length out ≡ 1275) where
     -- a packet whose bytes were read into the buffer
     pub packet_good : {n : ℕ} {b : Bool} {f last : List ℕ} {k : ℕ} → length s ≤ 2600 → n ≡ length (fields_of s) → n ≡ 7 → f ≡ packet_hex s
-        → (b ≡ hex_bytes (length out) f) × (last ≡ bytes_into f out) → b ≡ true → k ≡ length (packet_hex s) → PacketAnswer s out (Bytes (k / 2)) last
+        → (b ≡ hex_bytes (length out) f) × (last ≡ bytes_into f out) → b ≡ true → k ≡ length (packet_hex s) → PacketAnswer s out (Some (k / 2)) last
     unfolding bytes_into
     packet_good h e g p q t k =
         let w : hex_bytes (length out) (packet_hex s) ≡ true = ap (hex_bytes (length out)) (sym p) ∙ sym q.0 ∙ t in
         let x : hex_bytes 1275 (packet_hex s) ≡ true = rw size at w in
-        rw (well_formed_lem s h (sym e ∙ g) x) (ap (λ (m : ℕ). Bytes (m / 2)) k, q.1 ∙ ap (λ (l : List ℕ). bytes_into l out) p ∙ rw w)
+        rw (well_formed_lem s h (sym e ∙ g) x) (ap (λ (m : ℕ). Some (m / 2)) k, q.1 ∙ ap (λ (l : List ℕ). bytes_into l out) p ∙ rw w)
 
     -- a packet that is not bytes in hex
     pub packet_bad : {b : Bool} {f last : List ℕ} → f ≡ packet_hex s → (b ≡ hex_bytes (length out) f) × (last ≡ bytes_into f out) → b ≡ false
-        → PacketAnswer s out Bad last
+        → PacketAnswer s out None last
     unfolding bytes_into
     packet_bad p q t =
         let w : hex_bytes (length out) (packet_hex s) ≡ false = ap (hex_bytes (length out)) (sym p) ∙ sym q.0 ∙ t in

@@ -1,19 +1,16 @@
 -- What the lister answers to a line: the allocation that is read from the line's packet, or the number of the refusal.
-use Rattle.std.specs.Prelude.{ℕ, ◌-◌, cond, List, ◌++◌, leb, length}
+use Rattle.std.specs.Prelude.{ℕ, ◌-◌, cond, List, ◌++◌, leb, length, Option, Some, None, Result}
+use Rattle.entcode.specs.declared.reasons.Refusal.{Refusal}
 use Rattle.std.proofs.lemmas.List.Edits.{sets}
 use Rattle.laws.specs.Signs.{clip}
-use Rattle.entcode.specs.Said.{Said, answer, lent_after}
+use Rattle.entcode.specs.Said.{Said, answer, lent_after, said}
 use Rattle.entcode.specs.Said.Said.{done, refused}
 use Rattle.entdec.specs.declared.Reader.{Reader}
 use Rattle.entdec.specs.Read.{fresh_reader}
 use Rattle.rate.specs.declared.AllocNumbers.{AllocNumbers}
-use Rattle.rate.specs.declared.ReadAllocation.{ReadAllocation}
+use Rattle.rate.specs.Allocations.{ReadAllocation}
 use Rattle.rate.specs.Question.{Lists, no_entries, no_lists}
 use Rattle.rate.specs.Answer.{AfterRead, reading}
-use Rattle.lister_answer.specs.declared.Parsed.{Parsed}
-use Rattle.lister_answer.specs.declared.Parsed.TheVariants.{Asks, Malformed}
-use Rattle.lister_answer.specs.declared.Listed.{Listed}
-use Rattle.lister_answer.specs.declared.Listed.TheVariants.{Done, Refused}
 use Rattle.lister_answer.specs.Request.{request_of, packet_of}
 use Rattle.lister_answer.specs.Caps.{caps_of}
 use Rattle.lister_answer.specs.Lines.{head_line, band_lines, refused_line}
@@ -32,9 +29,9 @@ unfoldable pub listing_of_numbers : ℕ → AllocNumbers → List ℕ → Reader
 listing_of_numbers number q packet d = listing_of_allocation number (clip q.start) (clip q.end) (allocated q packet d).said (allocated q packet d).lent
 
 -- the listing of what a line asks, with a fresh reader of its packet; a malformed line is refused as 1
-abbrev pub listing_of_request : ℕ → Parsed → List ℕ → List ℕ
-listing_of_request number (Asks q) packet = listing_of_numbers number q packet (fresh_reader packet)
-listing_of_request number Malformed packet = refused_line number 1
+abbrev pub listing_of_request : ℕ → Option AllocNumbers → List ℕ → List ℕ
+listing_of_request number (Some q) packet = listing_of_numbers number q packet (fresh_reader packet)
+listing_of_request number None packet = refused_line number 1
 
 -- the listing of a line: the text that answers it
 unfoldable pub listing_of_line : ℕ → List ℕ → List ℕ
@@ -44,18 +41,13 @@ listing_of_line number line = listing_of_request number (request_of line) (packe
 abbrev pub room : ℕ
 room = 1200
 
--- what an answer says
-abbrev pub said : Listed → Said ℕ
-said (Done n) = done n
-said (Refused n) = refused n
-
 -- what is said, and the lent buffer after the call
 pub record After : Type 0 where
   pub said : Said ℕ
   pub lent : List ℕ
 
 -- both together
-abbrev pub after : Listed → List ℕ → After
+abbrev pub after : Result ℕ Refusal → List ℕ → After
 after r l = record { said = said r; lent = l }
 
 -- the number of the refusal, 0 for none, with so many bytes lent: a buffer that is too short (2)

@@ -1,14 +1,13 @@
 -- What a request line is answered with, as values. Document 01, "The lister". How it is written is in Answer.
+use Rattle.std.specs.Prelude.{Option, Some, None}
 use Rattle.std.specs.Prelude.{ℕ, cond, List}
+use Rattle.entcode.specs.Said.Said.{refused}
 use Rattle.laws.specs.Signs.{clip}
 use Rattle.entdec.specs.declared.Reader.{Reader}
 use Rattle.entdec.specs.Read.{fresh_reader}
 use Rattle.rate.specs.declared.AllocNumbers.{AllocNumbers}
-use Rattle.rate.specs.declared.AllocRead.TheVariants as alloc
-use Rattle.rate.specs.Question.{Lists, no_lists, numbers_ok}
+use Rattle.rate.specs.Question.{lists, no_lists, numbers_ok}
 use Rattle.rate.specs.Answer.{AfterRead, after_read}
-use Rattle.lister_answer.specs.declared.Parsed.{Parsed}
-use Rattle.lister_answer.specs.declared.Parsed.TheVariants.{Asks, Malformed}
 use Rattle.lister_answer.specs.declared.decide.Decided.{Decided}
 use Rattle.lister_answer.specs.Request.{request_of, packet_of}
 use Rattle.lister_answer.specs.Answer.{allocated, listing_of_allocation}
@@ -19,13 +18,13 @@ pub record Decision : Type 0 where
   pub end : ℕ
   pub read : AfterRead
 
--- what the code answers, with the lists that were lent to it
-abbrev pub decision : Decided → Lists → Decision
-decision r l = record { start = r.start; end = r.end; read = after_read r.said l }
+-- what the code answers
+abbrev pub decision : Decided → Decision
+decision r = record { start = r.start; end = r.end; read = after_read r.said (lists r.pulses r.fine r.priorities) }
 
 -- a refusal: no bands, and the lists as they were
 abbrev pub refused_decision : ℕ → Decision
-refused_decision why = record { start = 0; end = 0; read = after_read (alloc.Refused why) no_lists }
+refused_decision why = record { start = 0; end = 0; read = record { said = refused why; lent = no_lists } }
 
 -- the decision on numbers and a packet: no bands where the numbers are outside the domain
 unfoldable pub decision_of_numbers : AllocNumbers → List ℕ → Reader → Decision
@@ -37,9 +36,9 @@ decision_of_numbers q packet d =
     }
 
 -- the decision on what a line asks, with a fresh reader of its packet; a malformed line is refused as 1
-abbrev pub decision_of_request : Parsed → List ℕ → Decision
-decision_of_request (Asks q) packet = decision_of_numbers q packet (fresh_reader packet)
-decision_of_request Malformed packet = refused_decision 1
+abbrev pub decision_of_request : Option AllocNumbers → List ℕ → Decision
+decision_of_request (Some q) packet = decision_of_numbers q packet (fresh_reader packet)
+decision_of_request None packet = refused_decision 1
 
 -- the decision on a line
 unfoldable pub decision_of_line : List ℕ → Decision

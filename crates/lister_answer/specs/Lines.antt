@@ -2,7 +2,7 @@
 use Rattle.std.specs.Prelude.{ℕ, zero, suc, List, [], ◌∷◌, ◌++◌, pos, get_or}
 use Rattle.text.specs.Fields.{tabbed}
 use Rattle.text.specs.Written.{decimal_of, signed_of}
-use Rattle.rate.specs.declared.ReadAllocation.{ReadAllocation}
+use Rattle.rate.specs.Allocations.{ReadAllocation}
 use Rattle.rate.specs.Question.{Lists}
 
 -- fields, each after a tab, and a line feed

@@ -23,10 +23,8 @@ pub fn caps(c: u32, lm: u32) -> [i32; 21]
     ensures { result ≡ caps_of c lm }
 {
     let mut out = [0i32; 21];
-    let mut j: usize = 0;
-    while j < 21 {
+    for j in 0..21 {
         out[j] = cap(c, lm, j);
-        j += 1;
     }
     out
 }

@@ -1,5 +1,5 @@
-// The answer's lines, written into a buffer that has room for them.
-ghost use Rattle.std.specs.Prelude.{◌≡◌, [], ◌∷◌, ◌+◌, ◌-◌, ◌*◌, ◌≤◌, length};
+// The answer's lines, written into a buffer that has room for them. A place goes in and the place after comes out: `PlacedText` is of the whole buffer.
+ghost use Rattle.std.specs.Prelude.{◌≡◌, [], ◌∷◌, map, ◌+◌, ◌-◌, ◌*◌, ◌≤◌, length};
 ghost use Rattle.text.specs.Written.{decimal_of, signed_of, PlacedText};
 ghost use Rattle.rate.specs.Question.{lists};
 ghost use Rattle.lister_answer.specs.Lines.{line_end, answer_line, head_line, band_lines, refused_line};
@@ -25,43 +25,19 @@ fn feed(buf: &mut [u8], at: usize) -> usize
     at + 1
 }
 
-// The last field and the line feed.
-fn last(z: i32, buf: &mut [u8], at: usize) -> usize
-    requires { at + 13 ≤ length buf.old }
-    ensures { PlacedText 13 buf.old at (line_end (signed_of z ∷ [])) result buf.new }
+// The fields after the first, and the line feed.
+fn end(fields: &[i32], buf: &mut [u8], at: usize) -> usize
+    requires { at + 12 * length fields.now + 1 ≤ length buf.old }
+    ensures { PlacedText (12 * length fields.now + 1) buf.old at (line_end (map signed_of fields.now)) result buf.new }
 {
-    let a = signed_field(z, buf, at);
-    feed(buf, a)
+    let mut to = at;
+    for &z in fields {
+        to = signed_field(z, buf, to);
+    }
+    feed(buf, to)
 }
 
-// The last two fields and the line feed.
-fn last_two(y: i32, z: i32, buf: &mut [u8], at: usize) -> usize
-    requires { at + 25 ≤ length buf.old }
-    ensures { PlacedText 25 buf.old at (line_end (signed_of y ∷ signed_of z ∷ [])) result buf.new }
-{
-    let a = signed_field(y, buf, at);
-    last(z, buf, a)
-}
-
-// The last three fields and the line feed.
-fn last_three(x: i32, y: i32, z: i32, buf: &mut [u8], at: usize) -> usize
-    requires { at + 37 ≤ length buf.old }
-    ensures { PlacedText 37 buf.old at (line_end (signed_of x ∷ signed_of y ∷ signed_of z ∷ [])) result buf.new }
-{
-    let a = signed_field(x, buf, at);
-    last_two(y, z, buf, a)
-}
-
-// The last four fields and the line feed.
-fn last_four(w: i32, x: i32, y: i32, z: i32, buf: &mut [u8], at: usize) -> usize
-    requires { at + 49 ≤ length buf.old }
-    ensures { PlacedText 49 buf.old at (line_end (signed_of w ∷ signed_of x ∷ signed_of y ∷ signed_of z ∷ [])) result buf.new }
-{
-    let a = signed_field(w, buf, at);
-    last_three(x, y, z, buf, a)
-}
-
-// The X line of a request: its number and the refusal's.
+// The X line of a request: its number and the refusal's, which the line shows as a number.
 pub fn refused(number: u32, why: u32, buf: &mut [u8]) -> usize
     requires { 24 ≤ length buf.old }
     ensures { PlacedText 24 buf.old 0 (refused_line number why) result buf.new }
@@ -77,7 +53,7 @@ pub fn head(number: u32, y: ReadAllocation, buf: &mut [u8]) -> usize
     ensures { PlacedText 61 buf.old 0 (head_line number y) result buf.new }
 {
     let a = begin(b'R', number, buf, 0);
-    last_four(y.coded, y.balance, y.intensity, y.dual, buf, a)
+    end(&[y.coded, y.balance, y.intensity, y.dual], buf, a)
 }
 
 // The B line of a band: its place and its figures.
@@ -87,7 +63,7 @@ fn band(j: u32, pulses: i32, fine: i32, priority: i32, buf: &mut [u8], at: usize
         buf.new }
 {
     let a = begin(b'B', j, buf, at);
-    last_three(pulses, fine, priority, buf, a)
+    end(&[pulses, fine, priority], buf, a)
 }
 
 // A B line for each band from start up to end - 1.
@@ -105,14 +81,9 @@ pub fn bands(
     ensures { PlacedText (49 * (end - start)) buf.old at (band_lines start (end - start)
         (lists pulses.now fine.now priorities.now)) result buf.new }
 {
-    let mut j = start;
     let mut to = at;
-    while j < end {
-        let p = pulses[j];
-        let f = fine[j];
-        let k = priorities[j];
-        to = band(j as u32, p, f, k, buf, to);
-        j += 1;
+    for j in start..end {
+        to = band(j as u32, pulses[j], fine[j], priorities[j], buf, to);
     }
     to
 }

@@ -1,4 +1,5 @@
 // The model of the coarse energies: quant_bands.rs, e_prob_model, its 4 by 2 rows of 21 pairs as one list.
+// The table is taken once for each call and lent, so that it is not made in each function.
 ghost use Rattle.std.specs.Prelude.{◌≡◌, ◌≤◌, ◌<◌};
 ghost use Rattle.modes.specs.EnergyModel.{energy_model, zero_at, decay_at, pair_index};
 

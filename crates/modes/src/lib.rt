@@ -2,6 +2,7 @@
 // is a list of specs/ alone, which rate_cache holds packed); its rule is proved once, in proofs/. A const is written out at each mention, so
 // tables hold bytes where they can, and a caller that reads one of the long ones many times takes it once, by its module's `table`, and lends it to
 // the functions named `.._in`.
+// Bands and sizes stay numbers with their bounds in each contract: a type for them would be opened at each place of a table.
 #![tactic(auto)]
 
 pub mod cache_bits;

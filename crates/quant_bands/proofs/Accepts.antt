@@ -1,4 +1,5 @@
 -- What an accepted call tells of its numbers, and an answer by its number. Assumes nothing.
+use Rattle.std.specs.Prelude.{Ok}
 use Prim.Native.Nat.{ℕ, zero, suc, ◌-◌, ◌≤◌, ◌<◌}
 use mathlib.Core.Path.{◌≡◌, refl, sym, ap, ◌∙◌}
 use mathlib.Core.Bool.{Bool, true, ◌&&◌, and-eq-true_iff, false≢true}
@@ -12,9 +13,9 @@ use borrow.Author.Tests.{eqb-true, leb-true, ltb-true}
 use Rattle.laws.specs.Places.{over_places}
 use Rattle.laws.specs.Signs.{clip}
 use Rattle.laws.proofs.Signs.{range_count}
+use Rattle.entcode.specs.Said.Said.{refused}
 use Rattle.entcode.specs.Said.{answer, lent_after}
 use Rattle.entdec.specs.declared.Reader.{Reader}
-use Rattle.quant_bands.specs.declared.EnergyRead.TheVariants.{Done, Refused}
 use Rattle.quant_bands.specs.Domain.{BandsIn}
 use Rattle.quant_bands.specs.Coarse.{EnergiesAfter, energies_after, CoarseState, coarse_state, coarse_start, coarse, coarse_band}
 use Rattle.quant_bands.specs.Finalise.{Spending, spending, finalise}
@@ -41,13 +42,19 @@ bands_in c start end e =
     let o = ordered start end 21 z.1 y.1 x.1 in
     record { c_low = channels.low; c_le = channels.high; start-lt = o.0; end-le = o.1 }
 
--- with LM
-pub coarse_in : (c lm start end intra : ℤ) → coarse_ok c lm start end intra ≡ true → BandsIn (clip c) (clip start) (clip end) × (clip lm < 4)
+-- with LM, the bands by their own test
+pub coarse_parts : (c lm start end intra : ℤ) → coarse_ok c lm start end intra ≡ true → (bands_ok c start end ≡ true) × (clip lm < 4)
 unfolding coarse_ok
-coarse_in c lm start end intra e =
+coarse_parts c lm start end intra e =
     let x = (and-eq-true_iff _ _).0 e in
     let y = (and-eq-true_iff _ _).0 x.0 in
-    (bands_in c start end y.0, omega (arith, (range_count 0 3 lm y.1).high))
+    (y.0, omega (arith, (range_count 0 3 lm y.1).high))
+
+-- the bands as counts, and LM
+pub coarse_in : (c lm start end intra : ℤ) → coarse_ok c lm start end intra ≡ true → BandsIn (clip c) (clip start) (clip end) × (clip lm < 4)
+coarse_in c lm start end intra e =
+    let p = coarse_parts c lm start end intra e in
+    (bands_in c start end p.0, p.1)
 
 -- three lengths
 pub sized : (n f p : ℕ) → (eqb n 42 && eqb f 21 && eqb p 21) ≡ true → (n ≡ 42) × (f ≡ 21) × (p ≡ 21)
@@ -75,12 +82,12 @@ finalise-is c fine priority start end left s d es e = ap (λ (g : Spending). ene
 -- ---- answers
 
 -- number 0: the reader and the energies of the work
-said_got : (n : ℕ) (y : EnergiesAfter) (es : List Float) {fs : List Float} {d : Reader} → n ≡ 0 → energies_after fs d ≡ y → after (Done d) fs ≡ answer_r n y es
+said_got : (n : ℕ) (y : EnergiesAfter) (es : List Float) {fs : List Float} {d : Reader} → n ≡ 0 → energies_after fs d ≡ y → after (Ok d) fs ≡ answer_r n y es
 unfolding answer lent_after
 said_got n y es z e = rw (z, ← e)
 
 -- any other: the refusal, and the energies as they were
-said-refused : (n : ℕ) (y : EnergiesAfter) (es : List Float) → (n ≡ 0 → ⊥) → after (Refused n) es ≡ answer_r n y es
+said-refused : (n : ℕ) (y : EnergiesAfter) (es : List Float) → (n ≡ 0 → ⊥) → record { said = refused n; energies = es } ≡ answer_r n y es
 unfolding answer lent_after
 said-refused zero y es h = absurd (h refl)
 said-refused (suc n) y es h = refl
@@ -89,12 +96,12 @@ said-refused (suc n) y es h = refl
 module _ (c lm start end intra : ℤ) (s : List ℕ) (d : Reader) (es : List Float) {n : ℕ} (g : n ≡ refusal_coarse c lm start end intra s d es) where
   -- it is accepted
   pub coarse_got : n ≡ 0 → {fs : List Float} {r : Reader} → energies_after fs r ≡ coarse (clip c) (clip lm) (is_intra intra) (clip start) (clip end) s d es
-      → after (Done r) fs ≡ coarse_reading c lm start end intra s d es
+      → after (Ok r) fs ≡ coarse_reading c lm start end intra s d es
   coarse_got z e = said_got (refusal_coarse c lm start end intra s d es) (coarse (clip c) (clip lm) (is_intra intra) (clip start) (clip end) s d es) es
       (sym g ∙ z) e
 
   -- it is refused
-  pub coarse-refused : (n ≡ 0 → ⊥) → after (Refused n) es ≡ coarse_reading c lm start end intra s d es
+  pub coarse-refused : (n ≡ 0 → ⊥) → record { said = refused n; energies = es } ≡ coarse_reading c lm start end intra s d es
   coarse-refused h =
       rw g
       (said-refused (refusal_coarse c lm start end intra s d es) (coarse (clip c) (clip lm) (is_intra intra) (clip start) (clip end) s d es) es
@@ -106,14 +113,14 @@ module _ (c start end : ℤ) (fine priorities : List ℤ) (left : ℤ) (s : List
   -- they are accepted
   pub finalise_got : n ≡ 0 → {fs : List Float} {r : Reader}
       → energies_after fs r ≡ finalise (clip c) (count_at fine) (count_at priorities) (clip start) (clip end) (clip left) s d es
-      → after (Done r) fs ≡ finalise_reading c start end fine priorities left s d es
+      → after (Ok r) fs ≡ finalise_reading c start end fine priorities left s d es
   finalise_got z e =
       said_got (refusal_finalise c start end fine priorities s d es)
       (finalise (clip c) (count_at fine) (count_at priorities) (clip start) (clip end) (clip left) s d es)
       es (sym g ∙ z) e
 
   -- they are refused
-  pub finalise-refused : (n ≡ 0 → ⊥) → after (Refused n) es ≡ finalise_reading c start end fine priorities left s d es
+  pub finalise-refused : (n ≡ 0 → ⊥) → record { said = refused n; energies = es } ≡ finalise_reading c start end fine priorities left s d es
   finalise-refused h =
       rw g
       (said-refused (refusal_finalise c start end fine priorities s d es)

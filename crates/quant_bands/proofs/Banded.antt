@@ -12,7 +12,7 @@ use Rattle.laws.proofs.Tests.{split_on, by_le, cond-by}
 use Rattle.modes.specs.Laplace.{legal}
 use Rattle.entdec.specs.declared.Reader.{Reader}
 use Rattle.entdec.specs.Ready.{Ready}
-use Rattle.laplace.specs.declared.LapSym.{LapSym}
+use Rattle.laplace.specs.Coded.{LapSym}
 use Rattle.entdec.proofs.Chain.{ready_less}
 use Rattle.quant_bands.specs.declared.coarse_band.Kind.{Kind}
 use Rattle.quant_bands.specs.Steps.{read_step}

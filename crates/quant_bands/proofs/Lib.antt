@@ -6,7 +6,6 @@ pub mod Offsets
 pub mod Spent
 pub mod Ranged
 pub mod Accepts
-pub mod Said
 pub mod Outside
 pub mod Bounds
 pub mod Largest

@@ -1,15 +1,13 @@
 -- A reader that goes from band to band, two symbols a band at most. Assumes nothing.
 use Prim.Native.Nat.{ℕ, zero, suc, ◌+◌, ◌-◌, ◌*◌, ◌≤◌, ◌<◌}
 use mathlib.Core.Path.{◌≡◌, ap}
-use mathlib.Core.Bool.{Bool, false, ◌&&◌}
+use mathlib.Core.Bool.{Bool}
 use mathlib.Core.List.{List}
 use native.Mathlib.Nat.{add-zero}
 use native.Mathlib.Omega.{arith}
-use lib.Dec.{ltb, leb}
 use lib.Ieee.{Float}
-use borrow.Author.Tests.{leb-false, ltb-false}
 use Rattle.laws.specs.Places.{over_places}
-use Rattle.laws.proofs.Tests.{split_on, by_le}
+use Rattle.laws.proofs.Tests.{by_le}
 use Rattle.entdec.specs.declared.Reader.{Reader}
 use Rattle.entdec.specs.Ready.{Ready}
 use Rattle.entdec.proofs.Chain.{ready_less}
@@ -59,20 +57,19 @@ module _ (c pass : ℕ) (fine priority : ℕ → ℕ) (s : List ℕ) (start : �
       let e : m + suc n ≡ suc (m + n) = omega arith in
       rw (e, stays n m h) (short_none c pass fine priority s (start + (m + n)) (over_places (spend_band c pass fine priority s) start m g) h)
 
-  -- so a pass is over where no band is left, or too few bits
-  pub pass-over : (i end : ℕ) {x : Spending} → start ≤ i → i ≤ end → x ≡ over_places (spend_band c pass fine priority s) start (i - start) g
-      → (ltb i end && leb c x.left) ≡ false → x ≡ spend_pass c pass fine priority start end s g
+  -- so a pass is over where too few bits are left
+  pub pass_short : (i end : ℕ) {x : Spending} → start ≤ i → i ≤ end → x ≡ over_places (spend_band c pass fine priority s) start (i - start) g
+      → x.left < c → x ≡ spend_pass c pass fine priority start end s g
   unfolding spend_pass
-  pass-over i end {x} h l e t =
-      split_on (ltb i end)
-      (λ b.
+  pass_short i end h l e k =
       let q : end - start ≡ i - start + (end - i) = omega arith in
-      let k : x.left < c = leb-false c x.left (rw b at t) in
-      rw (q, stays (end - i) (i - start) (rw e at k)) e)
-      (λ b.
-      let k = ltb-false i end b in
-      let q : end ≡ i = omega arith in
-      rw q e)
+      rw (q, stays (end - i) (i - start) (rw e at k)) e
+
+  -- and where no band is
+  pub pass_done : (i end : ℕ) {x : Spending} → i ≡ end → x ≡ over_places (spend_band c pass fine priority s) start (i - start) g
+      → x ≡ spend_pass c pass fine priority start end s g
+  unfolding spend_pass
+  pass_done i end q e = rw (← q) e
 
   -- after a whole pass
   pub pass-after : (end : ℕ) {es : List Float} {left : ℕ} {d : Reader} → end ≤ 21 → Ready 84 g.next

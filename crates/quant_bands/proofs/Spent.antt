@@ -12,7 +12,7 @@ use Rattle.laws.proofs.Tests.{cond-by}
 use Rattle.entcode.specs.Sym.{length_ok, list_ok, shape_ok}
 use Rattle.entcode.specs.Sym.Shape.{raw}
 use Rattle.entdec.specs.declared.Reader.{Reader}
-use Rattle.entdec.specs.declared.ReadSymbol.{ReadSymbol}
+use Rattle.entdec.specs.Coded.{ReadSymbol}
 use Rattle.entdec.specs.Ready.{Ready}
 use Rattle.entdec.specs.Symbols.{read_sym}
 use Rattle.entdec.proofs.Chain.{ready_after, ready_less}

@@ -18,7 +18,7 @@ use Rattle.modes.proofs.Laplace.{legal_parts}
 use Rattle.entcode.specs.Sym.{falls, length_ok, list_ok, shape_ok}
 use Rattle.entcode.specs.Sym.Shape.{bit, table}
 use Rattle.entdec.specs.declared.Reader.{Reader}
-use Rattle.entdec.specs.declared.ReadSymbol.{ReadSymbol}
+use Rattle.entdec.specs.Coded.{ReadSymbol}
 use Rattle.entdec.specs.Read.{decoded_place}
 use Rattle.entdec.specs.Ready.{Ready}
 use Rattle.entdec.specs.Symbols.{read_sym}
@@ -27,7 +27,7 @@ use Rattle.entdec.proofs.Chain.{ready_after, ready_less}
 use Rattle.entdec.proofs.Places.{place_less}
 use Rattle.entdec.proofs.Steps.{one_step}
 use Rattle.entdec.proofs.Values.{bit-value, table-value}
-use Rattle.laplace.specs.declared.LapSym.{LapSym}
+use Rattle.laplace.specs.Coded.{LapSym}
 use Rattle.laplace.specs.Chain.{locate}
 use Rattle.laplace.specs.Signed.{value_in}
 use Rattle.laplace.specs.Model.{value_at, lap_model}

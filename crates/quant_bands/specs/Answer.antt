@@ -1,19 +1,12 @@
 -- What the two calls say, by document 01's number of the refusal and the reader after them, and what the lent energies then hold.
-use Rattle.std.specs.Prelude.{ℕ, List, ℤ, Float}
+use Rattle.std.specs.Prelude.{ℕ, List, ℤ, Float, Result}
+use Rattle.entcode.specs.declared.reasons.Refusal.{Refusal}
 use Rattle.laws.specs.Signs.{clip}
-use Rattle.entcode.specs.Said.{Said, answer, lent_after}
-use Rattle.entcode.specs.Said.Said.{done, refused}
+use Rattle.entcode.specs.Said.{Said, answer, lent_after, said}
 use Rattle.entdec.specs.declared.Reader.{Reader}
-use Rattle.quant_bands.specs.declared.EnergyRead.{EnergyRead}
-use Rattle.quant_bands.specs.declared.EnergyRead.TheVariants.{Done, Refused}
 use Rattle.quant_bands.specs.Coarse.{EnergiesAfter, coarse}
 use Rattle.quant_bands.specs.Finalise.{finalise}
 use Rattle.quant_bands.specs.Question.{refusal_coarse, refusal_finalise, is_intra, count_at}
-
--- what an answer says
-abbrev pub said : EnergyRead → Said Reader
-said (Done d) = done d
-said (Refused n) = refused n
 
 -- what is said, and the lent energies after the call
 pub record After : Type 0 where
@@ -21,7 +14,7 @@ pub record After : Type 0 where
   pub energies : List Float
 
 -- made of its two parts
-abbrev pub after : EnergyRead → List Float → After
+abbrev pub after : Result Reader Refusal → List Float → After
 after r es = record { said = said r; energies = es }
 
 -- number 0: the reader and the energies of the definition; any other: that refusal, and the energies as they were

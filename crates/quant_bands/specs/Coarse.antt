@@ -7,7 +7,7 @@ use Rattle.laws.specs.Places.{over_places}
 use Rattle.modes.specs.EnergyModel.{zero_at, decay_at, pair_index}
 use Rattle.modes.specs.Prediction.{coef_of, beta_of}
 use Rattle.entdec.specs.declared.Reader.{Reader}
-use Rattle.laplace.specs.declared.LapSym.{LapSym}
+use Rattle.laplace.specs.Coded.{LapSym}
 use Rattle.quant_bands.specs.declared.coarse_band.Kind.{Kind}
 use Rattle.quant_bands.specs.Steps.{read_step}
 use Rattle.quant_bands.specs.Prediction.{predicted, handed_on}

@@ -5,7 +5,7 @@ use Rattle.entcode.specs.Sym.Shape.{bit, table}
 use Rattle.entcode.specs.Tell.{tell_of}
 use Rattle.entdec.specs.declared.Reader.{Reader}
 use Rattle.entdec.specs.Symbols.{read_sym}
-use Rattle.laplace.specs.declared.LapSym.{LapSym}
+use Rattle.laplace.specs.Coded.{LapSym}
 use Rattle.laplace.specs.Model.{value_at}
 use Rattle.laplace.specs.Answer.{read_lap}
 

@@ -1,10 +1,12 @@
 // One band of the coarse energies: quant_bands.rs, unquant_coarse_energy, the inner loop.
+// The table is taken once for each call and lent, so that it is not made in each function.
 ghost use Rattle.std.specs.Prelude.{◌≡◌, true, cond, leb, ◌-◌, ◌≤◌, ◌<◌, length};
 ghost use Rattle.modes.specs.EnergyModel.{energy_model};
 ghost use Rattle.modes.specs.Laplace.{legal};
 ghost use Rattle.entdec.specs.Ready.{Ready};
 ghost use Rattle.quant_bands.specs.Coarse.{coarse_state, kind_of, coarse_step, energy_at, first_at, second_at, coarse_band};
 
+use crate::bands::Frame;
 use crate::prediction::{carry, predict};
 use crate::steps::read_step;
 use entdec::Reader;
@@ -20,6 +22,7 @@ pub struct Kind {
     pub beta: f32,
 }
 
+// No `Coded`: what is handed on is its name, which the definitions have.
 // What a channel hands on to the next band, and the reader.
 #[derive(Clone, Copy)]
 pub struct Hand {
@@ -36,16 +39,16 @@ pub struct Hands {
 }
 
 // What band i is decoded with, from the model lent.
-fn kind_of(t: &[u8], lm: usize, intra: bool, i: usize) -> Kind
-    requires { (t.now ≡ energy_model) × (lm < 4) × (i < 21) }
-    ensures { result ≡ kind_of lm intra i }
+fn kind_of(t: &[u8], f: Frame, i: usize) -> Kind
+    requires { (t.now ≡ energy_model) × (i < 21) }
+    ensures { result ≡ kind_of f.lm f.intra i }
 {
-    let k = pair_of(lm, intra, i);
+    let k = pair_of(f.lm, f.intra, i);
     Kind {
         zero: zero_in(t, k),
         decay: decay_in(t, k),
-        coef: coef_of(intra, lm),
-        beta: beta_of(intra, lm),
+        coef: coef_of(f.intra, f.lm),
+        beta: beta_of(f.intra, f.lm),
     }
 }
 
@@ -104,28 +107,17 @@ fn channel(e: &mut [f32], m: Kind, k: usize, s: &[u8], g: Hands) -> Hands
 }
 
 // Band i of c channels. One call, in a loop over the channels' places, so that reading a step is inlined.
-pub fn coarse_band(
-    e: &mut [f32],
-    t: &[u8],
-    c: u32,
-    lm: usize,
-    intra: bool,
-    i: usize,
-    s: &[u8],
-    g: Hands,
-) -> Hands
-    requires e_len { (length e.old ≡ 42) × (t.now ≡ energy_model) × (lm < 4) × (i < 21) }
+pub fn coarse_band(e: &mut [f32], t: &[u8], f: Frame, i: usize, s: &[u8], g: Hands) -> Hands
+    requires e_len { (length e.old ≡ 42) × (t.now ≡ energy_model) × (i < 21) }
     requires ready { Ready 2 g.next }
     ensures { coarse_state e.new result.first result.second result.next
-        ≡ coarse_band c lm intra s.now i (coarse_state e.old g.first g.second g.next) }
+        ≡ coarse_band f.bands.c f.lm f.intra s.now i (coarse_state e.old g.first g.second g.next) }
 {
-    let m = kind_of(t, lm, intra, i);
-    let end = end_of(c);
+    let m = kind_of(t, f, i);
+    let end = end_of(f.bands.c);
     let mut y = g;
-    let mut k = i;
-    while k < end {
+    for k in (i..end).step_by(21) {
         y = channel(e, m, k, s, y);
-        k += 21;
     }
     y
 }

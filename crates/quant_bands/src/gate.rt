@@ -1,8 +1,10 @@
 // What the two calls are refused with: document 01, "Domain in numbers" and "When the answer is no".
 ghost use Rattle.std.specs.Prelude.{◌≡◌, ◌&&◌, eqb, length};
+ghost use Rattle.entcode.specs.Said.{verdict};
 ghost use Rattle.entdec.specs.Rule.{read_refusal};
 ghost use Rattle.quant_bands.specs.Question.{energies_sized, energies_ok, bands_ok, coarse_ok, fines_ok};
 
+use entcode::Refusal;
 use entdec::Reader;
 use laws::{all_finite, in_range, list_ok};
 
@@ -27,7 +29,7 @@ pub fn fines_ok(fine: &[i32], priorities: &[i32]) -> bool
     list_ok(fine, 0, 8) & list_ok(priorities, 0, 1)
 }
 
-// The number of the refusal of a coarse decode of so many bytes, 0 for none. The energies are read once every length is right.
+// The refusal of a coarse decode of so many bytes. The energies are read once every length is right.
 pub fn refusal_coarse(
     d: Reader,
     bytes: usize,
@@ -37,19 +39,19 @@ pub fn refusal_coarse(
     start: i32,
     end: i32,
     intra: i32,
-) -> u32
-    ensures { result ≡ read_refusal bytes d (energies_sized (length energies.now)) (coarse_ok c lm start end intra) (energies_ok energies.now) 0 }
+) -> Result<(), Refusal>
+    ensures { verdict result ≡ read_refusal bytes d (energies_sized (length energies.now)) (coarse_ok c lm start end intra) (energies_ok energies.now) 0 }
 {
     let length = energies.len() == 42;
     if d.sized(bytes, length) {
         let known = coarse_ok(c, lm, start, end, intra);
         let finite = all_finite(energies);
-        return d.refusal(bytes, length, known, finite, 0);
+        return d.refusal(bytes, length, known, finite, Ok(()));
     }
-    2
+    Err(Refusal::Length)
 }
 
-// The number of the refusal of spending the last bits, 0 for none, in the same way.
+// The refusal of spending the last bits, in the same way.
 pub fn refusal_finalise(
     d: Reader,
     bytes: usize,
@@ -59,8 +61,8 @@ pub fn refusal_finalise(
     end: i32,
     fine: &[i32],
     priorities: &[i32],
-) -> u32
-    ensures { result ≡ read_refusal bytes d
+) -> Result<(), Refusal>
+    ensures { verdict result ≡ read_refusal bytes d
         (energies_sized (length energies.now) && eqb (length fine.now) 21 && eqb (length priorities.now) 21)
         (bands_ok c start end) (energies_ok energies.now && fines_ok fine.now priorities.now) 0 }
 {
@@ -69,7 +71,7 @@ pub fn refusal_finalise(
         let known = bands_ok(c, start, end);
         let finite = all_finite(energies);
         let entries = fines_ok(fine, priorities);
-        return d.refusal(bytes, lengths, known, finite & entries, 0);
+        return d.refusal(bytes, lengths, known, finite & entries, Ok(()));
     }
-    2
+    Err(Refusal::Length)
 }

@@ -7,6 +7,7 @@ ghost use Rattle.quant_bands.specs.Question.{count_at};
 use entdec::Reader;
 use laws::clipped;
 
+// No `Coded`: what it counts is its name, which the definitions have.
 // The bits that are left over, and the reader.
 #[derive(Clone, Copy)]
 pub struct LeftOver {

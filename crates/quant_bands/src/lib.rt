@@ -1,6 +1,7 @@
 // The energies of the bands, decoded: quant_bands.rs, unquant_coarse_energy and unquant_energy_finalise; RFC 6716, section 4.3.2.
 #![tactic(auto)]
 
+pub mod bands;
 pub mod coarse_band;
 pub mod edge;
 pub mod gate;
@@ -12,15 +13,10 @@ pub mod work;
 ghost use Rattle.std.specs.Prelude.{◌≡◌};
 ghost use Rattle.quant_bands.specs.Answer.{after, coarse_reading, finalise_reading};
 
+use bands::{Bands, Frame};
+use entcode::Refusal;
 use entdec::Reader;
 use laws::clipped;
-
-// What a call answers beside the lent energies: the reader after it, or the number of the refusal.
-#[derive(Clone, Copy)]
-pub enum EnergyRead {
-    Done(Reader),
-    Refused(u32),
-}
 
 // Decodes the coarse energies of the bands start..end-1 from the packet s, in place. Refused as 2 (bytes, 42 energies), 1 (the state, C, LM,
 // the bands, intra), 3 (an energy that is not finite) and 4.
@@ -33,20 +29,12 @@ pub fn unquant_coarse_energy(
     start: i32,
     end: i32,
     intra: i32,
-) -> EnergyRead
+) -> Result<Reader, Refusal>
     ensures { after result energies.new ≡ coarse_reading c lm start end intra s.now d energies.old }
 {
-    let no = gate::refusal_coarse(d, s.len(), energies, c, lm, start, end, intra);
-    if no == 0 {
-        let channels = clipped(c);
-        let size = edge::place_of(lm);
-        let from = edge::place_of(start);
-        let to = edge::place_of(end);
-        let next = work::coarse(d, s, energies, channels, size, from, to, 0 < intra);
-        EnergyRead::Done(next)
-    } else {
-        EnergyRead::Refused(no)
-    }
+    gate::refusal_coarse(d, s.len(), energies, c, lm, start, end, intra)?;
+    let f = Frame::of(c, lm, start, end, intra);
+    Ok(work::coarse(d, s, energies, f))
 }
 
 // Spends the bits left over on the energies of the bands start..end-1, in place: priority 0 first, one raw bit for each channel. Refused as
@@ -61,19 +49,12 @@ pub fn unquant_energy_finalise(
     fine: &[i32],
     priorities: &[i32],
     left: i32,
-) -> EnergyRead
+) -> Result<Reader, Refusal>
     ensures { after result energies.new
         ≡ finalise_reading c start end fine.now priorities.now left s.now d energies.old }
 {
-    let no = gate::refusal_finalise(d, s.len(), energies, c, start, end, fine, priorities);
-    if no == 0 {
-        let channels = clipped(c);
-        let from = edge::place_of(start);
-        let to = edge::place_of(end);
-        let bits = clipped(left);
-        let next = work::finalise(d, s, energies, channels, from, to, fine, priorities, bits);
-        EnergyRead::Done(next)
-    } else {
-        EnergyRead::Refused(no)
-    }
+    gate::refusal_finalise(d, s.len(), energies, c, start, end, fine, priorities)?;
+    let b = Bands::of(c, start, end);
+    let bits = clipped(left);
+    Ok(work::finalise(d, s, energies, b, fine, priorities, bits))
 }

@@ -14,7 +14,7 @@ pub fn bits_left(d: Reader) -> u64
 {
     let have = 8 * (d.storage as u64);
     let used = entcode::tell_of(d.total, d.rng) as u64;
-    if used < have { have - used } else { 0 }
+    have.saturating_sub(used)
 }
 
 // The three-way table.

@@ -1,4 +1,5 @@
 -- What an accepted call tells of its numbers and lists, and an answer by its number. Assumes nothing.
+use Rattle.std.specs.Prelude.{Ok}
 use Prim.Native.Nat.{ℕ, zero, suc, ◌≤◌, ◌<◌}
 use mathlib.Core.Path.{◌≡◌, refl}
 use mathlib.Core.Bool.{Bool, true, and-eq-true_iff, false≢true}
@@ -12,21 +13,18 @@ use borrow.Author.Tests.{eqb-true, leb-true, ltb-true}
 use Rattle.laws.specs.Signs.{clip}
 use Rattle.laws.proofs.Signs.{entries-count, range_count}
 use Rattle.entdec.specs.declared.Reader.{Reader}
+use Rattle.entcode.specs.Said.Said.{refused}
 use Rattle.entcode.specs.Said.{answer, lent_after}
 use Rattle.entcode.proofs.Refusals.{passed}
 use Rattle.entenc.specs.declared.Writer.{Writer}
 use Rattle.entenc.specs.Rule.{write_refusal, writer_ok}
 use Rattle.entenc.specs.Write.{Wr}
 use Rattle.rate_spec.specs.Types.{AllocIn, AllocOut}
-use Rattle.rate_bands.specs.declared.AllocCounts.{AllocCounts}
-use Rattle.rate_bands.specs.Inputs.{AllocCountsOk, AllocListsOk, alloc_in}
+use Rattle.rate_bands.specs.Inputs.{AllocCountsOk, AllocListsOk}
 use Rattle.rate.specs.declared.AllocNumbers.{AllocNumbers}
-use Rattle.rate.specs.declared.ReadAllocation.{ReadAllocation}
-use Rattle.rate.specs.declared.WrittenAllocation.{WrittenAllocation}
-use Rattle.rate.specs.declared.AllocRead.TheVariants as read
-use Rattle.rate.specs.declared.AllocWrote.TheVariants as wrote
+use Rattle.rate.specs.Allocations.{ReadAllocation, WrittenAllocation}
 use Rattle.rate.specs.Question.{Lists, entries_ok, alloc_counts, lengths_ok, numbers_ok}
-use Rattle.rate.specs.Answer.{after_read, after_write, answer_read, answer_written, lists_of, read_figures, write_alloc, written_figures}
+use Rattle.rate.specs.Answer.{after_read, after_write, answer_read, answer_written, lists_of, read_figures, written_figures}
 
 -- ---- lengths
 
@@ -127,35 +125,25 @@ opened m w lengths numbers lists h =
 
 -- number 0: the allocation that was read is the answer
 pub done-read : (n : ℕ) (a : AllocIn) (x : AllocOut × Reader) (l : Lists) {y : ReadAllocation} {m : Lists} → n ≡ 0 → y ≡ read_figures x → m ≡ lists_of a x.0 l
-    → after_read (read.Done y) m ≡ answer_read n a x l
+    → after_read (Ok y) m ≡ answer_read n a x l
 unfolding answer_read answer lent_after
 done-read n a x l z e f = rw (z, e, f)
 
 -- another number: that refusal is the answer to a read
-pub refused-read : (n : ℕ) (a : AllocIn) (x : AllocOut × Reader) (l : Lists) → (n ≡ 0 → ⊥) → after_read (read.Refused n) l ≡ answer_read n a x l
+pub refused-read : (n : ℕ) (a : AllocIn) (x : AllocOut × Reader) (l : Lists) → (n ≡ 0 → ⊥) → record { said = refused n; lent = l } ≡ answer_read n a x l
 unfolding answer_read answer lent_after
 refused-read zero a x l h = absurd (h refl)
 refused-read (suc n) a x l h = refl
 
 -- number 0: the allocation that was written is the answer
 pub done-written : (n : ℕ) (a : AllocIn) (x : AllocOut × Wr) (l : Lists) (w : Wr) {y : WrittenAllocation} {m : Lists} {b : List ℕ}
-    → n ≡ 0 → y ≡ written_figures x → b ≡ x.1.bytes → m ≡ lists_of a x.0 l → after_write (wrote.Done y) m b ≡ answer_written n a x l w
+    → n ≡ 0 → y ≡ written_figures x → b ≡ x.1.bytes → m ≡ lists_of a x.0 l → after_write (Ok y) m b ≡ answer_written n a x l w
 unfolding answer_written answer lent_after
 done-written n a x l w z e f g = rw (z, e, f, g)
 
 -- another number: that refusal is the answer to a write
 pub refused-written : (n : ℕ) (a : AllocIn) (x : AllocOut × Wr) (l : Lists) (w : Wr) → (n ≡ 0 → ⊥)
-    → after_write (wrote.Refused n) l w.bytes ≡ answer_written n a x l w
+    → record { said = refused n; lent = l; bytes = w.bytes } ≡ answer_written n a x l w
 unfolding answer_written answer lent_after
 refused-written zero a x l w h = absurd (h refl)
 refused-written (suc n) a x l w h = refl
-
--- the contract of `work::write`, at the call's numbers, is that of the call
-pub work_written : (n : ℕ) (l : Lists) (w : Wr) {f g : AllocCounts} {o p c d : List ℕ} {i j : ℕ} {x y : Bool} {u v s t : ℤ} → f ≡ g → o ≡ p → c ≡ d → i ≡ j
-    → x ≡ y → u ≡ v
-    → s ≡ t → n ≡ 0 → {r : WrittenAllocation} {m : Lists} {b : List ℕ} → (r ≡ written_figures (write_alloc (alloc_in f o c) i x u s w))
-    × (b ≡ (write_alloc (alloc_in f o c) i x u s w).1.bytes) × (m ≡ lists_of (alloc_in f o c) (write_alloc (alloc_in f o c) i x u s w).0 l)
-    → after_write (wrote.Done r) m b ≡ answer_written n (alloc_in g p d) (write_alloc (alloc_in g p d) j y v t w) l w
-work_written n l w {f} {g} {o} {p} {c} {d} {i} {j} {x} {y} {u} {v} {s} {t} e₁ e₂ e₃ e₄ e₅ e₆ e₇ z k =
-    rw (← e₁, ← e₂, ← e₃, ← e₄, ← e₅, ← e₆, ← e₇)
-    (done-written n (alloc_in f o c) (write_alloc (alloc_in f o c) i x u s w) l w z k.0 k.1 k.2)

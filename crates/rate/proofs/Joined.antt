@@ -41,23 +41,17 @@ pub record Started (f : AllocCounts) (offsets caps bits : List ℕ) (g : Begun) 
   pub bits_are : bits ≡ fill (bits_of (alloc_in f offsets caps)) f.start (f.end - f.start) blank
   pub begins : BeginsAt (alloc_in f offsets caps) g
 
--- skipping was done by someone who answers its flags as A does
+-- skipping was done, with A's answers
 pub record SkipDone {σ : Type 0} (f : AllocCounts) (bits : List ℕ) (g : Begun) (A : Ask σ) (s : σ) (coded left reserve : ℕ) (stopped : Bool) (t : σ)
     (kept : List ℕ) : Type 0 where
-  pub by : Ask σ
-  pub alike : A.skip ≡ by.skip
   pub is : (round_of coded left reserve (kept_of f.end coded kept), stopped, t)
-      ≡ skip_ending (skip (bare f) (λ j. get_or bits j 0) by (f.end - suc g.low) (round_of f.end g.left g.reserves.intensity []) s)
+      ≡ skip_ending (skip (bare f) (λ j. get_or bits j 0) A (f.end - suc g.low) (round_of f.end g.left g.reserves.intensity []) s)
 
--- and each stereo question was answered by someone who answers it as A does
+-- and A answered each stereo question
 pub record StereoAnswered {σ : Type 0} (f : AllocCounts) (A : Ask σ) (coded reserve : ℕ) (t : σ) (i : ℕ) (d : Bool) (w : σ) : Type 0 where
-  pub intensity-by : Ask σ
-  pub intensity-alike : A.intensity ≡ intensity-by.intensity
   pub mid : σ
-  pub intensity : (i, mid) ≡ ask_intensity (bare f) intensity-by (round_of coded 0 reserve []) t
-  pub dual-by : Ask σ
-  pub dual-alike : A.dual ≡ dual-by.dual
-  pub dual : (d, w) ≡ ask_dual (bare f) dual-by i mid
+  pub intensity : (i, mid) ≡ ask_intensity (bare f) A (round_of coded 0 reserve []) t
+  pub dual : (d, w) ≡ ask_dual (bare f) A i mid
 
 -- the numbers of an allocation, and the state of who answered
 pub record Numbered {σ : Type 0} (x : AllocOut × σ) (coded balance i : ℕ) (d : Bool) (w : σ) : Type 0 where
@@ -129,7 +123,7 @@ module _ {f : AllocCounts} {offsets caps bits : List ℕ} {g : Begun} (h : Start
         sym
         (k.is
         ∙ ap (λ (x : Skipped × σ). skip_ending x)
-        (sym (skip-same f offsets caps bits_held A k.by k.alike n r s)
+        (sym (skip-same f offsets caps bits_held A n r s)
         ∙ same.skip-same a bits_held (bits_of a) A n r s (omega (arith, h.frame.start-lt)) agree)
         ∙ ap (λ (m : ℕ). skip_ending (skip a (bits_of a) A (f.end - suc m) r s)) h.begins.low-is
         ∙ ap (λ (q : Round). skip_ending (skip a (bits_of a) A (f.end - suc (skip_start a)) q s)) first-is)
@@ -178,12 +172,11 @@ module _ {f : AllocCounts} {offsets caps bits : List ℕ} {g : Begun} (h : Start
       intensity-answered : ask_intensity a A the_skip.0.last the_skip.1 ≡ (i, q.mid)
       unfolding ask_intensity
       intensity-answered =
-          rw (last-is, next-is) (sym (q.intensity ∙ sym (intensity-same f offsets caps bits_held A q.intensity-by q.intensity-alike
-          (round_of coded 0 reserve []) t)))
+          rw (last-is, next-is) (sym (q.intensity ∙ sym (intensity-same f offsets caps bits_held A (round_of coded 0 reserve []) t)))
 
       -- A answers the question of dual stereo as it was answered
       dual-answered : ask_dual a A i q.mid ≡ (d, w)
-      dual-answered = sym (q.dual ∙ sym (dual-same f offsets caps bits_held A q.dual-by q.dual-alike i q.mid))
+      dual-answered = sym (q.dual ∙ sym (dual-same f offsets caps bits_held A i q.mid))
 
       -- so the allocation is the last step of the definition on the code's figures
       alloc-is : alloc a A s ≡ (finish a (bits_of a) the_skip.0 i d, w)

@@ -1,8 +1,6 @@
--- Lemmas that the proofs share. To cite: Accepts, Coded, Said.
+-- Lemmas that the proofs share. To cite: Accepts, Coded.
 pub mod Begins
-pub mod Asking
 pub mod Joined
 pub mod Figures
 pub mod Accepts
-pub mod Said
 pub mod Coded

@@ -1,24 +1,20 @@
 -- What an allocation says, by document 01's number of the refusal and the values, and what the lent lists and bytes then hold.
-use Rattle.std.specs.Prelude.{ℕ, ◌-◌, Bool, cond, List, ℤ, pos}
+use Rattle.std.specs.Prelude.{ℕ, ◌-◌, Bool, cond, List, ℤ, pos, Result}
+use Rattle.entcode.specs.declared.reasons.Refusal.{Refusal}
 use Rattle.std.specs.Int.Signed.{lt_z}
 use Rattle.laws.specs.Lists.{fill}
 use Rattle.laws.specs.Signs.{clip}
-use Rattle.entcode.specs.Said.{Said, answer, lent_after}
-use Rattle.entcode.specs.Said.Said.{done, refused}
+use Rattle.entcode.specs.Said.{Said, answer, lent_after, said}
 use Rattle.entdec.specs.declared.Reader.{Reader}
-use Rattle.entenc.specs.declared.Writer.{Writer}
 use Rattle.entenc.specs.Write.{Wr}
 use Rattle.rate_spec.specs.Types.{Band, AllocIn, AllocOut}
 use Rattle.rate_spec.specs.Alloc.{alloc}
 use Rattle.rate_skip.specs.Asks.{read_ask, write_ask}
 use Rattle.rate.specs.declared.AllocNumbers.{AllocNumbers}
 use Rattle.rate.specs.declared.Wishes.{Wishes}
-use Rattle.rate.specs.declared.ReadAllocation.{ReadAllocation}
-use Rattle.rate.specs.declared.WrittenAllocation.{WrittenAllocation}
-use Rattle.rate.specs.declared.AllocRead.{AllocRead}
-use Rattle.rate.specs.declared.AllocRead.TheVariants as read
-use Rattle.rate.specs.declared.AllocWrote.{AllocWrote}
-use Rattle.rate.specs.declared.AllocWrote.TheVariants as wrote
+use Rattle.rate.specs.declared.Allocation.{Allocation}
+use Rattle.rate.specs.declared.work.Worked.{Worked}
+use Rattle.rate.specs.Allocations.{ReadAllocation, WrittenAllocation}
 use Rattle.rate.specs.Question.{Lists, alloc_input, lists, refusal_read, refusal_write}
 
 -- ---- the definition's answer as the call gives it
@@ -31,23 +27,22 @@ with_figure a figure o l = fill (λ j. pos (figure (o.band j))) a.start (a.end -
 abbrev pub lists_of : AllocIn → AllocOut → Lists → Lists
 lists_of a o l = lists (with_figure a (λ b. b.pulses) o l.pulses) (with_figure a (λ b. b.fine) o l.fine) (with_figure a (λ b. b.prio) o l.priorities)
 
--- the numbers, with the reader after the call
-abbrev pub read_numbers : ℕ → ℕ → ℕ → Bool → Reader → ReadAllocation
-read_numbers coded balance intensity dual next =
+-- what an allocation came to as counts, with the state of who answered
+abbrev pub worked_of : {σ : Type 0} → AllocOut × σ → Worked × σ
+worked_of (o, s) = (record { coded = o.coded; balance = o.balance; intensity = o.intensity; dual = o.dual }, s)
+
+-- the numbers, with the coder after the call
+abbrev pub numbers : {C : Type 0} → ℕ → ℕ → ℕ → Bool → C → Allocation C
+numbers coded balance intensity dual next =
     record { coded = pos coded; balance = pos balance; intensity = pos intensity; dual = pos (cond dual 1 0); next = next }
 
 -- what a decoder's allocation came to, as the answer has it
 abbrev pub read_figures : AllocOut × Reader → ReadAllocation
-read_figures (o, d) = read_numbers o.coded o.balance o.intensity o.dual d
-
--- the numbers, with the writer after the call
-abbrev pub written_numbers : ℕ → ℕ → ℕ → Bool → Writer → WrittenAllocation
-written_numbers coded balance intensity dual next =
-    record { coded = pos coded; balance = pos balance; intensity = pos intensity; dual = pos (cond dual 1 0); next = next }
+read_figures (o, d) = numbers o.coded o.balance o.intensity o.dual d
 
 -- what an encoder's allocation came to, as the answer has it
 abbrev pub written_figures : AllocOut × Wr → WrittenAllocation
-written_figures (o, w) = written_numbers o.coded o.balance o.intensity o.dual w.st
+written_figures (o, w) = numbers o.coded o.balance o.intensity o.dual w.st
 
 -- ---- reading
 
@@ -55,19 +50,14 @@ written_figures (o, w) = written_numbers o.coded o.balance o.intensity o.dual w.
 abbrev pub read_alloc : AllocIn → List ℕ → Reader → AllocOut × Reader
 read_alloc a s d = alloc a (read_ask s) d
 
--- what an answer says
-abbrev pub said_read : AllocRead → Said ReadAllocation
-said_read (read.Done y) = done y
-said_read (read.Refused n) = refused n
-
 -- what is said, and the lent lists after the call
 pub record AfterRead : Type 0 where
   pub said : Said ReadAllocation
   pub lent : Lists
 
 -- the answer and the lent lists after the call, as one
-abbrev pub after_read : AllocRead → Lists → AfterRead
-after_read r l = record { said = said_read r; lent = l }
+abbrev pub after_read : Result ReadAllocation Refusal → Lists → AfterRead
+after_read r l = record { said = said r; lent = l }
 
 -- number 0: the allocation, and its lists; any other: that refusal, and the lists as they were
 unfoldable pub answer_read : ℕ → AllocIn → AllocOut × Reader → Lists → AfterRead
@@ -88,11 +78,6 @@ write_alloc a intensity dual previous bandwidth w = alloc a (write_ask a previou
 abbrev pub write_wished : AllocIn → Wishes → Wr → AllocOut × Wr
 write_wished a h w = write_alloc a (clip h.intensity) (lt_z (pos 0) h.dual) h.previous h.bandwidth w
 
--- what an answer says
-abbrev pub said_wrote : AllocWrote → Said WrittenAllocation
-said_wrote (wrote.Done y) = done y
-said_wrote (wrote.Refused n) = refused n
-
 -- what is said, and the lent lists and bytes after the call
 pub record AfterWrite : Type 0 where
   pub said : Said WrittenAllocation
@@ -100,8 +85,8 @@ pub record AfterWrite : Type 0 where
   pub bytes : List ℕ
 
 -- the answer, the lent lists and the bytes after the call, as one
-abbrev pub after_write : AllocWrote → Lists → List ℕ → AfterWrite
-after_write r l b = record { said = said_wrote r; lent = l; bytes = b }
+abbrev pub after_write : Result WrittenAllocation Refusal → Lists → List ℕ → AfterWrite
+after_write r l b = record { said = said r; lent = l; bytes = b }
 
 -- number 0: the allocation, its lists and the bytes; any other: that refusal, and lists and bytes as they were
 unfoldable pub answer_written : ℕ → AllocIn → AllocOut × Wr → Lists → Wr → AfterWrite

@@ -10,6 +10,7 @@ use Rattle.entenc.specs.Rule.{write_refusal}
 use Rattle.rate_spec.specs.Types.{AllocIn}
 use Rattle.rate_bands.specs.declared.AllocCounts.{AllocCounts}
 use Rattle.rate_bands.specs.Inputs.{alloc_in}
+use Rattle.rate_skip.specs.declared.choice.Wished.{Wished}
 use Rattle.rate.specs.declared.AllocNumbers.{AllocNumbers}
 use Rattle.rate.specs.declared.Wishes.{Wishes}
 
@@ -29,6 +30,10 @@ alloc_input q offsets caps = alloc_in (alloc_counts q) (map clip offsets) (map c
 -- an encoder's wishes, in the same way
 abbrev pub wishes : ℤ → ℤ → ℤ → ℤ → Wishes
 wishes intensity dual previous bandwidth = record { intensity = intensity; dual = dual; previous = previous; bandwidth = bandwidth }
+
+-- the wishes in the work's numbers: the intensity as a count, and dual stereo as a flag
+abbrev pub wished_of : Wishes → Wished
+wished_of h = record { intensity = clip h.intensity; dual = lt_z (pos 0) h.dual; previous = h.previous; bandwidth = h.bandwidth }
 
 -- the lists that are lent for the answer
 pub record Lists : Type 0 where

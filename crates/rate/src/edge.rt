@@ -1,17 +1,17 @@
 // From i32, as a call is handed it, to counts, as the work has it, and back.
-ghost use Rattle.std.specs.Prelude.{◌≡◌, map, cond, ◌≤◌, pos, length};
+ghost use Rattle.std.specs.Prelude.{◌≡◌, map, ◌≤◌, length};
 ghost use Rattle.laws.specs.Signs.{clip};
-ghost use Rattle.rate.specs.Question.{alloc_counts};
-ghost use Rattle.rate.specs.Answer.{read_numbers, written_numbers};
+ghost use Rattle.rate.specs.Question.{alloc_counts, wished_of};
+ghost use Rattle.rate.specs.Answer.{numbers};
 
-use super::{AllocNumbers, ReadAllocation, WrittenAllocation};
-use entdec::Reader;
-use entenc::Writer;
+use super::work::Worked;
+use super::{AllocNumbers, Allocation, Wishes};
 use laws::clipped;
 use rate_bands::AllocCounts;
+use rate_skip::choice::Wished;
 use rate_split::bands::signed;
 
-// The numbers as counts.
+// The numbers as counts. No From: each number is clipped, and what was below 0 is lost, as `alloc_counts` of the definition says.
 pub fn alloc_counts(q: AllocNumbers) -> AllocCounts
     ensures { result ≡ alloc_counts q }
 {
@@ -37,58 +37,36 @@ pub fn counts_of(l: &[i32]) -> [u32; 21]
     ensures { result ≡ map clip l.now }
 {
     let mut out = [0u32; 21];
-    let mut i: usize = 0;
-    while i < 21 {
-        let z = l[i];
-        out[i] = clipped(z);
-        i += 1;
+    for (i, v) in out.iter_mut().enumerate() {
+        *v = clipped(l[i]);
     }
     out
 }
 
-// A flag as the answer has it.
-fn flag_of(yes: bool) -> i32
-    ensures { result ≡ pos (cond yes 1 0) }
-{
-    if yes { 1 } else { 0 }
-}
+// An encoder's wishes in the work's numbers: its intensity as a count, and its dual stereo as a flag.
+impl From<Wishes> for Wished {
+    ghost from_gives = { λ h w. w ≡ wished_of h };
 
-// The numbers of an allocation that was read, as the answer has them.
-pub fn read_figures(
-    coded: usize,
-    balance: u32,
-    intensity: usize,
-    dual: bool,
-    next: Reader,
-) -> ReadAllocation
-    requires { (coded ≤ 21) × (balance ≤ 81600) × (intensity ≤ 21) }
-    ensures { result ≡ read_numbers coded balance intensity dual next }
-{
-    ReadAllocation {
-        coded: signed(coded as u32),
-        balance: signed(balance),
-        intensity: signed(intensity as u32),
-        dual: flag_of(dual),
-        next,
+    fn from(h: Wishes) -> Wished {
+        Wished {
+            intensity: clipped(h.intensity) as usize,
+            dual: 0 < h.dual,
+            previous: h.previous,
+            bandwidth: h.bandwidth,
+        }
     }
 }
 
-// The numbers of an allocation that was written.
-pub fn written_figures(
-    coded: usize,
-    balance: u32,
-    intensity: usize,
-    dual: bool,
-    next: Writer,
-) -> WrittenAllocation
-    requires { (coded ≤ 21) × (balance ≤ 81600) × (intensity ≤ 21) }
-    ensures { result ≡ written_numbers coded balance intensity dual next }
+// The numbers of an allocation as the answer has them, with the coder after it.
+pub fn figures<C>(y: Worked, next: C) -> Allocation<C>
+    requires { (y.coded ≤ 21) × (y.balance ≤ 81600) × (y.intensity ≤ 21) }
+    ensures { result ≡ numbers y.coded y.balance y.intensity y.dual next }
 {
-    WrittenAllocation {
-        coded: signed(coded as u32),
-        balance: signed(balance),
-        intensity: signed(intensity as u32),
-        dual: flag_of(dual),
+    Allocation {
+        coded: signed(y.coded as u32),
+        balance: signed(y.balance),
+        intensity: signed(y.intensity as u32),
+        dual: i32::from(y.dual),
         next,
     }
 }

@@ -1,10 +1,12 @@
 // What an allocation is refused with, by its numbers and lists: document 01, "Domain in numbers".
 ghost use Rattle.std.specs.Prelude.{◌≡◌, ◌&&◌, length};
+ghost use Rattle.entcode.specs.Said.{verdict};
 ghost use Rattle.entdec.specs.Rule.{read_refusal};
 ghost use Rattle.entenc.specs.Rule.{write_refusal};
 ghost use Rattle.rate.specs.Question.{lengths_ok, numbers_ok, stereo_ok, entries_ok};
 
 use super::{AllocNumbers, Wishes};
+use entcode::Refusal;
 use entdec::Reader;
 use entenc::Writer;
 use laws::{in_range, list_ok};
@@ -49,7 +51,9 @@ pub fn entries_ok(offsets: &[i32], caps: &[i32]) -> bool
     list_ok(offsets, 0, 81600) & list_ok(caps, 0, 32767)
 }
 
-// The number of the refusal of reading, 0 for none, of so many bytes and lists of so many entries. A list is read once every length is right.
+// Two gates: writing has the wishes and refusal 12 too, and the theorems stand on `read_refusal` and `write_refusal`.
+
+// The refusal of reading, of so many bytes and lists of so many entries. A list is read once every length is right.
 pub fn refusal_read(
     d: Reader,
     bytes: usize,
@@ -59,20 +63,20 @@ pub fn refusal_read(
     pulses: usize,
     fine: usize,
     priorities: usize,
-) -> u32
-    ensures { result ≡ read_refusal bytes d (lengths_ok (length offsets.now) (length caps.now) pulses fine priorities) (numbers_ok q)
+) -> Result<(), Refusal>
+    ensures { verdict result ≡ read_refusal bytes d (lengths_ok (length offsets.now) (length caps.now) pulses fine priorities) (numbers_ok q)
         (entries_ok offsets.now caps.now) 0 }
 {
     let lengths = lengths_ok(offsets.len(), caps.len(), pulses, fine, priorities);
     if d.sized(bytes, lengths) {
         let known = numbers_ok(q);
         let entries = entries_ok(offsets, caps);
-        return d.refusal(bytes, lengths, known, entries, 0);
+        return d.refusal(bytes, lengths, known, entries, Ok(()));
     }
-    2
+    Err(Refusal::Length)
 }
 
-// The number of the refusal of writing, 0 for none, in the same way.
+// The refusal of writing, in the same way.
 pub fn refusal_write(
     w: Writer,
     bytes: usize,
@@ -83,8 +87,8 @@ pub fn refusal_write(
     pulses: usize,
     fine: usize,
     priorities: usize,
-) -> u32
-    ensures { result ≡ write_refusal bytes w (lengths_ok (length offsets.now) (length caps.now) pulses fine priorities)
+) -> Result<(), Refusal>
+    ensures { verdict result ≡ write_refusal bytes w (lengths_ok (length offsets.now) (length caps.now) pulses fine priorities)
         (numbers_ok q && stereo_ok q h) (entries_ok offsets.now caps.now) 0 }
 {
     let lengths = lengths_ok(offsets.len(), caps.len(), pulses, fine, priorities);
@@ -92,7 +96,7 @@ pub fn refusal_write(
         let known = numbers_ok(q);
         let stereo = stereo_ok(q, h);
         let entries = entries_ok(offsets, caps);
-        return w.refusal(bytes, lengths, known & stereo, entries, 0);
+        return w.refusal(bytes, lengths, known & stereo, entries, Ok(()));
     }
-    2
+    Err(Refusal::Length)
 }

@@ -11,10 +11,14 @@ ghost use Rattle.entenc.specs.Write.{wr};
 ghost use Rattle.rate.specs.Question.{lists};
 ghost use Rattle.rate.specs.Answer.{after_read, after_write, reading, writing};
 
+use entcode::Refusal;
 use entdec::Reader;
 use entenc::Writer;
-use laws::clipped;
 use rate_bands::Reserves;
+use rate_skip::choice::Wished;
+use rate_skip::reading::Decoder;
+use rate_skip::writing::Encoder;
+use rate_split::Lists;
 
 // The numbers of a call as they are handed in: channels, frame size, the bands start..end-1, the trim, and the total in eighth bits.
 #[derive(Clone, Copy)]
@@ -37,40 +41,22 @@ pub struct Wishes {
     pub bandwidth: i32,
 }
 
-// What reading gives beside the lists: how many bands are coded, what the last of them hands on, the first band whose channels are coded as
-// one, whether the bands below it have theirs apart (1), and the reader after the call.
+// What an allocation gives beside the lists: how many bands are coded, what the last of them hands on, the first band whose channels are coded as
+// one, whether the bands below it have theirs apart (1), and the coder after the call.
 #[derive(Clone, Copy)]
-pub struct ReadAllocation {
+pub struct Allocation<C> {
     pub coded: i32,
     pub balance: i32,
     pub intensity: i32,
     pub dual: i32,
-    pub next: Reader,
+    pub next: C,
 }
 
-// The same, written, and the writer after the call.
-#[derive(Clone, Copy)]
-pub struct WrittenAllocation {
-    pub coded: i32,
-    pub balance: i32,
-    pub intensity: i32,
-    pub dual: i32,
-    pub next: Writer,
-}
+// What reading gives, with the reader after the call.
+pub type ReadAllocation = Allocation<Reader>;
 
-// What reading answers: the allocation, or the number of the refusal.
-#[derive(Clone, Copy)]
-pub enum AllocRead {
-    Done(ReadAllocation),
-    Refused(u32),
-}
-
-// What writing answers.
-#[derive(Clone, Copy)]
-pub enum AllocWrote {
-    Done(WrittenAllocation),
-    Refused(u32),
-}
+// What writing gives, with the writer after the call.
+pub type WrittenAllocation = Allocation<Writer>;
 
 // What is reserved, what no band has yet, and the highest band that is not skipped.
 #[derive(Clone, Copy)]
@@ -79,6 +65,8 @@ pub struct Begun {
     pub left: u32,
     pub low: usize,
 }
+
+// Reading and writing stay two calls, which README, the theorems and the exports name; what is behind their gates is one, `work::allocate`.
 
 // Reads an allocation from the packet s: pulses, fine bits and priorities go into the lists, the rest is answered.
 pub fn clt_compute_allocation_read(
@@ -90,12 +78,12 @@ pub fn clt_compute_allocation_read(
     pulses: &mut [i32],
     fine: &mut [i32],
     priorities: &mut [i32],
-) -> AllocRead
+) -> Result<ReadAllocation, Refusal>
     ensures { after_read result (lists pulses.new fine.new priorities.new)
         ≡ reading q offsets.now caps.now s.now d
         (lists pulses.old fine.old priorities.old) }
 {
-    let no = gate::refusal_read(
+    gate::refusal_read(
         d,
         s.len(),
         q,
@@ -104,25 +92,18 @@ pub fn clt_compute_allocation_read(
         pulses.len(),
         fine.len(),
         priorities.len(),
-    );
-    if no == 0 {
-        let f = edge::alloc_counts(q);
-        let offset_counts = edge::counts_of(offsets);
-        let cap_counts = edge::counts_of(caps);
-        let y = work::read(
-            f,
-            d,
-            s,
-            &offset_counts,
-            &cap_counts,
-            pulses,
-            fine,
-            priorities,
-        );
-        AllocRead::Done(y)
-    } else {
-        AllocRead::Refused(no)
-    }
+    )?;
+    let f = edge::alloc_counts(q);
+    let offset_counts = edge::counts_of(offsets);
+    let cap_counts = edge::counts_of(caps);
+    let mut side = Decoder { s, at: d };
+    let mut lent = Lists {
+        pulses,
+        fine,
+        priorities,
+    };
+    let y = work::allocate(f, &offset_counts, &cap_counts, &mut side, &mut lent);
+    Ok(edge::figures(y, side.at))
 }
 
 // Writes an allocation: the encoder's intensity and dual stereo are written where they are coded, intensity no more than the coded bands.
@@ -136,12 +117,12 @@ pub fn clt_compute_allocation_write(
     pulses: &mut [i32],
     fine: &mut [i32],
     priorities: &mut [i32],
-) -> AllocWrote
+) -> Result<WrittenAllocation, Refusal>
     ensures { after_write result (lists pulses.new fine.new priorities.new) buf.new
         ≡ writing q h offsets.now caps.now
         (wr w buf.old) (lists pulses.old fine.old priorities.old) }
 {
-    let no = gate::refusal_write(
+    gate::refusal_write(
         w,
         buf.len(),
         q,
@@ -151,28 +132,20 @@ pub fn clt_compute_allocation_write(
         pulses.len(),
         fine.len(),
         priorities.len(),
-    );
-    if no == 0 {
-        let f = edge::alloc_counts(q);
-        let offset_counts = edge::counts_of(offsets);
-        let cap_counts = edge::counts_of(caps);
-        let first = clipped(h.intensity) as usize;
-        let y = work::write(
-            f,
-            first,
-            0 < h.dual,
-            h.previous,
-            h.bandwidth,
-            w,
-            buf,
-            &offset_counts,
-            &cap_counts,
-            pulses,
-            fine,
-            priorities,
-        );
-        AllocWrote::Done(y)
-    } else {
-        AllocWrote::Refused(no)
-    }
+    )?;
+    let f = edge::alloc_counts(q);
+    let offset_counts = edge::counts_of(offsets);
+    let cap_counts = edge::counts_of(caps);
+    let mut side = Encoder {
+        bytes: buf,
+        at: w,
+        wished: Wished::from(h),
+    };
+    let mut lent = Lists {
+        pulses,
+        fine,
+        priorities,
+    };
+    let y = work::allocate(f, &offset_counts, &cap_counts, &mut side, &mut lent);
+    Ok(edge::figures(y, side.at))
 }

@@ -1,111 +1,61 @@
-// The whole allocation, behind the gate: bits before skipping, skipping, the two stereo symbols, what is left, the split of every band. They
-// test nothing; the public calls do.
-ghost use Rattle.std.specs.Prelude.{◌≡◌, length};
-ghost use Rattle.entdec.specs.Ready as reader;
-ghost use Rattle.entenc.specs.Ready as writer;
-ghost use Rattle.entenc.specs.Write.{wr};
+// The whole allocation, behind the gate: bits before skipping, skipping, the two stereo symbols, what is left, the split of every band. It tests
+// nothing; the public calls do.
+ghost use Rattle.std.specs.Prelude.{◌≡◌, ◌≤◌};
+ghost use Rattle.rate_spec.specs.Alloc.{alloc};
 ghost use Rattle.rate_bands.specs.Inputs.{alloc_in, AllocCountsOk, AllocListsOk};
+ghost use Rattle.rate_split.specs.Lent.{SameLists};
 ghost use Rattle.rate.specs.Question.{lists};
-ghost use Rattle.rate.specs.Answer.{lists_of, read_alloc, read_figures, write_alloc, written_figures};
+ghost use Rattle.rate.specs.Answer.{lists_of, worked_of};
 
 use crate::begin::begin;
-use crate::{ReadAllocation, WrittenAllocation, edge};
-use entdec::Reader;
-use entenc::Writer;
 use rate_bands::AllocCounts;
 use rate_skip::figures::left_of;
-use rate_skip::{reading, writing};
+use rate_skip::side::Side;
+use rate_skip::walk;
+use rate_split::Lists;
 use rate_split::bands::split_bands;
 
-// Reads an allocation from the packet s.
-pub fn read(
-    f: AllocCounts,
-    d: Reader,
-    s: &[u8],
-    offsets: &[u32; 21],
-    caps: &[u32; 21],
-    pulses: &mut [i32],
-    fine: &mut [i32],
-    priorities: &mut [i32],
-) -> ReadAllocation
-    requires alloc_counts_ok { AllocCountsOk f × AllocListsOk offsets.now caps.now × reader.Ready 22 d }
-    requires pulses_len { (length pulses.old ≡ 21) × (length fine.old ≡ 21) × (length priorities.old ≡ 21) }
-    ensures { (result ≡ read_figures (read_alloc (alloc_in f offsets.now caps.now) s.now d))
-        × (lists pulses.new fine.new priorities.new
-        ≡ lists_of (alloc_in f offsets.now caps.now)
-        (read_alloc (alloc_in f offsets.now caps.now) s.now d).0
-        (lists pulses.old fine.old priorities.old)) }
-{
-    let mut bits = [0u32; 21];
-    let mut kept = [0u32; 21];
-    let b = begin(f, offsets, caps, &mut bits);
-    let k = b.reserves;
-    let skipped = reading::skip_read(f, &bits, b.low, b.left, k.intensity, s, d, &mut kept);
-    let coded = skipped.coded;
-    let at = skipped.next;
-    let i = reading::intensity_read(f, coded, skipped.reserve, s, at);
-    let band = i.band;
-    let then = i.next;
-    let dual = reading::dual_read(f, k.dual, band, s, then);
-    let next = dual.next;
-    let left = left_of(f, k, skipped.left, skipped.stopped, band);
-    let balance = split_bands(
-        f, caps, &bits, &kept, coded, left, band, dual.yes, pulses, fine, priorities,
-    );
-    edge::read_figures(coded, balance, band, dual.yes, next)
+// The numbers of an allocation as counts: how many bands are coded, what the last of them hands on, the first band whose channels are coded as one,
+// and whether the bands below it have theirs apart.
+#[derive(Clone, Copy)]
+pub struct Worked {
+    pub coded: usize,
+    pub balance: u32,
+    pub intensity: usize,
+    pub dual: bool,
 }
 
-// Writes an allocation with this intensity, if it is no more than the coded bands, and this dual stereo, where they are coded.
-pub fn write(
+// An allocation whose questions the side answers.
+pub fn allocate<S: Side>(
     f: AllocCounts,
-    intensity: usize,
-    dual: bool,
-    previous: i32,
-    bandwidth: i32,
-    w: Writer,
-    buf: &mut [u8],
     offsets: &[u32; 21],
     caps: &[u32; 21],
-    pulses: &mut [i32],
-    fine: &mut [i32],
-    priorities: &mut [i32],
-) -> WrittenAllocation
-    requires alloc_counts_ok { AllocCountsOk f × AllocListsOk offsets.now caps.now × writer.Ready 22 (wr w buf.old) }
-    requires pulses_len { (length pulses.old ≡ 21) × (length fine.old ≡ 21) × (length priorities.old ≡ 21) }
-    ensures { (result ≡ written_figures (write_alloc (alloc_in f offsets.now caps.now) intensity dual previous bandwidth (wr w buf.old)))
-        × (buf.new ≡ (write_alloc (alloc_in f offsets.now caps.now) intensity dual previous bandwidth
-        (wr w buf.old)).1.bytes)
-        × (lists pulses.new fine.new priorities.new
+    side: &mut S,
+    lent: &mut Lists,
+) -> Worked
+    requires { AllocCountsOk f × AllocListsOk offsets.now caps.now × S.ready 22 side.old }
+    ensures numbers { (result, S.state side.new) ≡ worked_of (alloc (alloc_in f offsets.now caps.now) (S.ask side.old f) (S.state side.old)) }
+    ensures within { (result.coded ≤ 21) × (result.balance ≤ 81600) × (result.intensity ≤ 21) }
+    ensures filled { lists lent.new.pulses.now lent.new.fine.now lent.new.priorities.now
         ≡ lists_of (alloc_in f offsets.now caps.now)
-        (write_alloc (alloc_in f offsets.now caps.now) intensity dual previous bandwidth (wr w buf.old)).0
-        (lists pulses.old fine.old priorities.old)) }
+        (alloc (alloc_in f offsets.now caps.now) (S.ask side.old f) (S.state side.old)).0
+        (lists lent.old.pulses.now lent.old.fine.now lent.old.priorities.now) }
+    ensures same { S.alike side.old side.new × SameLists lent.old lent.new }
 {
     let mut bits = [0u32; 21];
     let mut kept = [0u32; 21];
     let b = begin(f, offsets, caps, &mut bits);
     let k = b.reserves;
-    let skipped = writing::skip_write(
-        f,
-        &bits,
-        b.low,
-        b.left,
-        k.intensity,
-        previous,
-        bandwidth,
-        w,
-        buf,
-        &mut kept,
-    );
+    let skipped = walk::skip(f, &bits, b.low, b.left, k.intensity, side, &mut kept);
     let coded = skipped.coded;
-    let at = skipped.next;
-    let i = writing::intensity_write(f, coded, skipped.reserve, intensity, at, buf);
-    let band = i.band;
-    let then = i.next;
-    let apart = writing::dual_write(f, k.dual, band, dual, then, buf);
-    let next = apart.next;
-    let left = left_of(f, k, skipped.left, skipped.stopped, band);
-    let balance = split_bands(
-        f, caps, &bits, &kept, coded, left, band, apart.yes, pulses, fine, priorities,
-    );
-    edge::written_figures(coded, balance, band, apart.yes, next)
+    let intensity = walk::intensity(f, coded, skipped.reserve, side);
+    let dual = walk::dual(f, k.dual, intensity, side);
+    let left = left_of(f, k, skipped.left, skipped.stopped, intensity);
+    let balance = split_bands(f, caps, &bits, &kept, coded, left, intensity, dual, lent);
+    Worked {
+        coded,
+        balance,
+        intensity,
+        dual,
+    }
 }

@@ -9,7 +9,7 @@ ghost use Rattle.rate_bands.specs.Inputs.{bare, alloc_in, AllocCountsOk, AllocLi
 ghost use Rattle.rate_bands.specs.Tilts.{scale, Tilt};
 
 use crate::AllocCounts;
-use laws::{max32, pow2, saturating_sub};
+use laws::pow2;
 use modes::vectors::step_in;
 
 // A bit for each channel.
@@ -36,7 +36,7 @@ pub fn threshold_of(f: AllocCounts, j: usize, w: u32) -> u32
 {
     let floor = floor_of(f);
     let p = pow2(f.lm);
-    max32(floor, 3 * w * p * 8 / 16)
+    floor.max(3 * w * p * 8 / 16)
 }
 
 // What a step of an allocation vector is multiplied by, and divided by 4, to give bits.
@@ -63,7 +63,7 @@ pub fn up_of(f: AllocCounts, j: usize, s: u32) -> u32
     requires { AllocCountsOk f × (s ≡ slope (bare f) j) }
     ensures { result ≡ trim_up (bare f) j }
 {
-    let d = saturating_sub(f.trim, 5 + f.lm);
+    let d = f.trim.saturating_sub(5 + f.lm);
     s * d / 64
 }
 
@@ -72,7 +72,7 @@ pub fn down_of(f: AllocCounts, j: usize, w: u32, s: u32) -> u32
     requires { AllocCountsOk f × (w ≡ width j) × (s ≡ slope (bare f) j) }
     ensures { result ≡ trim_down (bare f) j }
 {
-    let d = saturating_sub(5 + f.lm, f.trim);
+    let d = (5 + f.lm).saturating_sub(f.trim);
     let m = (s * d + 63) / 64;
     let p = pow2(f.lm);
     if w * p == 1 { m + floor_of(f) } else { m }
@@ -86,7 +86,7 @@ pub fn trimmed_of(f: AllocCounts, j: usize, x: u32, up: u32, down: u32) -> u32
     if x == 0 {
         return 0;
     }
-    saturating_sub(x + up, down)
+    (x + up).saturating_sub(down)
 }
 
 // Vector v's bits for band j as the lower one of two.

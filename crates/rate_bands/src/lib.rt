@@ -7,7 +7,8 @@ pub mod budget;
 pub mod lists;
 
 // All that an allocation is asked except its two lists: channels, frame size, the bands start..end-1, the trim, and the total, in which a
-// negative number was read as 0.
+// negative number was read as 0. No invariant: the definition `alloc_counts` of rate, and theorems over it, make this record of any numbers. The two lists
+// are lent beside it, so that nothing is copied.
 #[derive(Clone, Copy)]
 pub struct AllocCounts {
     pub c: u32,

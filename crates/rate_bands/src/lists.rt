@@ -1,5 +1,6 @@
 // The bands' figures as lists, each written over start..end-1 in one loop.
-ghost use Rattle.std.specs.Prelude.{◌≡◌, ◌-◌, ◌<◌, length};
+// The vectors' steps are taken once and lent. Arrays side by side, of an entry for each band: each is `fill` of a definition of its own.
+ghost use Rattle.std.specs.Prelude.{◌≡◌, ◌-◌, ◌<◌, length, replicate};
 ghost use Rattle.laws.specs.Lists.{fill};
 ghost use Rattle.modes.specs.Vectors.{vectors};
 ghost use Rattle.rate_spec.specs.Vectors.{threshold, trim_up, trim_down, lower_bits};
@@ -8,95 +9,90 @@ ghost use Rattle.rate_bands.specs.Inputs.{bare, alloc_in, AllocCountsOk, AllocLi
 ghost use Rattle.rate_bands.specs.Tilts.{scale, Holds, Neighbours, Tilts};
 
 use crate::{AllocCounts, band};
-use laws::saturating_sub;
 use modes::edges::width_of;
 
-// Thresholds, scales and both parts of the trim.
-pub fn tilts(
-    f: AllocCounts,
-    thresholds: &mut [u32; 21],
-    scales: &mut [u32; 21],
-    ups: &mut [u32; 21],
-    downs: &mut [u32; 21],
-)
+// Each band's scale and both parts of its trim, of a frame's bands.
+#[derive(Clone, Copy)]
+pub struct BandTilts {
+    pub f: AllocCounts,
+    pub scales: [u32; 21],
+    pub ups: [u32; 21],
+    pub downs: [u32; 21],
+    pub ghost frame: { AllocCountsOk f },
+    pub ghost figures: { Tilts (bare f) scales ups downs },
+}
+
+// Writes the thresholds, and gives the scales and both parts of the trim.
+pub fn tilts(f: AllocCounts, thresholds: &mut [u32; 21]) -> BandTilts
     requires { AllocCountsOk f }
-    ensures { (thresholds.new ≡ fill (threshold (bare f)) f.start (f.end - f.start) thresholds.old)
-        × (scales.new ≡ fill (scale (bare f)) f.start (f.end - f.start) scales.old)
-        × (ups.new ≡ fill (trim_up (bare f)) f.start (f.end - f.start) ups.old)
-        × (downs.new ≡ fill (trim_down (bare f)) f.start (f.end - f.start) downs.old) }
+    ensures { (thresholds.new ≡ fill (threshold (bare f)) f.start (f.end - f.start) thresholds.old) × (result.f ≡ f)
+        × (result.scales ≡ fill (scale (bare f)) f.start (f.end - f.start) (replicate 21 0))
+        × (result.ups ≡ fill (trim_up (bare f)) f.start (f.end - f.start) (replicate 21 0))
+        × (result.downs ≡ fill (trim_down (bare f)) f.start (f.end - f.start) (replicate 21 0)) }
 {
-    let start = f.start;
-    let end = f.end;
-    let mut j = start;
-    while j < end {
+    let mut scales = [0u32; 21];
+    let mut ups = [0u32; 21];
+    let mut downs = [0u32; 21];
+    for j in f.start..f.end {
         let w = width_of(j);
         let s = band::slope_of(f, j, w);
         thresholds[j] = band::threshold_of(f, j, w);
         scales[j] = band::scale_of(f, j, w);
         ups[j] = band::up_of(f, j, s);
         downs[j] = band::down_of(f, j, w, s);
-        j += 1;
+    }
+    BandTilts {
+        f,
+        scales,
+        ups,
+        downs,
     }
 }
 
 // Vector v's bits as the lower one of two.
 pub fn lows_of(
-    f: AllocCounts,
+    t: &BandTilts,
     offsets: &[u32; 21],
     caps: &[u32; 21],
     steps: &[u8],
     v: usize,
-    scales: &[u32; 21],
-    ups: &[u32; 21],
-    downs: &[u32; 21],
     lows: &mut [u32; 21],
 )
-    requires { AllocCountsOk f × AllocListsOk offsets.now caps.now × (steps.now ≡ vectors) × (v < 11)
-        × Tilts (bare f) scales.now ups.now downs.now × (length lows.old ≡ 21) }
-    ensures { let a = alloc_in f offsets.now caps.now in
+    requires { AllocListsOk offsets.now caps.now × (steps.now ≡ vectors) × (v < 11) × (length lows.old ≡ 21) }
+    ensures { let a = alloc_in t.now.f offsets.now caps.now in
         Holds a (lower_bits a v) lows.new × (length lows.new ≡ 21) }
 {
-    let start = f.start;
-    let end = f.end;
-    let mut j = start;
-    while j < end {
-        let scale = scales[j];
-        let up = ups[j];
-        let down = downs[j];
+    let f = t.f;
+    for j in f.start..f.end {
+        let scale = t.scales[j];
+        let up = t.ups[j];
+        let down = t.downs[j];
         lows[j] = band::low_of(f, offsets, caps, steps, v, j, scale, up, down);
-        j += 1;
     }
 }
 
 // Vector v's bits as the lower one of two, and how much the next one has above them.
 pub fn neighbours(
-    f: AllocCounts,
+    t: &BandTilts,
     offsets: &[u32; 21],
     caps: &[u32; 21],
     steps: &[u8],
     v: usize,
-    scales: &[u32; 21],
-    ups: &[u32; 21],
-    downs: &[u32; 21],
     lows: &mut [u32; 21],
     gaps: &mut [u32; 21],
 )
-    requires { AllocCountsOk f × AllocListsOk offsets.now caps.now × (steps.now ≡ vectors) × (v < 11)
-        × Tilts (bare f) scales.now ups.now downs.now × (length lows.old ≡ 21) × (length gaps.old ≡ 21) }
-    ensures { Neighbours (alloc_in f offsets.now caps.now) v lows.new gaps.new }
+    requires { AllocListsOk offsets.now caps.now × (steps.now ≡ vectors) × (v < 11) × (length lows.old ≡ 21) × (length gaps.old ≡ 21) }
+    ensures { Neighbours (alloc_in t.now.f offsets.now caps.now) v lows.new gaps.new }
 {
-    let start = f.start;
-    let end = f.end;
-    let mut j = start;
-    while j < end {
-        let scale = scales[j];
-        let up = ups[j];
-        let down = downs[j];
+    let f = t.f;
+    for j in f.start..f.end {
+        let scale = t.scales[j];
+        let up = t.ups[j];
+        let down = t.downs[j];
         let low = band::low_of(f, offsets, caps, steps, v, j, scale, up, down);
         let high = band::high_of(f, offsets, caps, steps, v, j, scale, up, down);
         lows[j] = low;
-        gaps[j] = saturating_sub(high, low);
-        j += 1;
+        gaps[j] = high.saturating_sub(low);
     }
 }
 
@@ -105,9 +101,7 @@ pub fn skip_start(f: AllocCounts, offsets: &[u32; 21], caps: &[u32; 21]) -> usiz
     requires { AllocCountsOk f }
     ensures { result ≡ skip_start (alloc_in f offsets.now caps.now) }
 {
-    let mut j = f.end;
-    while f.start < j {
-        j -= 1;
+    for j in (f.start..f.end).rev() {
         if 0 < offsets[j] {
             return j;
         }

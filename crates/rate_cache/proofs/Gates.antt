@@ -1,4 +1,5 @@
 -- What the tests of the numbers tell, and what a passed gate gives. Assumes nothing.
+use Rattle.std.specs.Prelude.{Ok}
 use Prim.Native.Nat.{ℕ, zero, suc, ◌≤◌, ◌<◌}
 use mathlib.Core.Path.{◌≡◌, refl, ap}
 use mathlib.Core.Bool.{Bool, true, false, ◌&&◌, and-eq-true_iff}
@@ -14,11 +15,9 @@ use Rattle.modes.specs.CacheBits.{row_length, CacheRow}
 use Rattle.modes.specs.CacheIndex.{index_entry, row_start}
 use Rattle.modes.proofs.CacheRule.{row_at}
 use Rattle.entcode.specs.Refusal.{refusal}
-use Rattle.entcode.specs.Said.{answer}
+use Rattle.entcode.specs.Said.{answer, said}
 use Rattle.entcode.specs.Said.Said.{done, refused}
 use Rattle.entcode.proofs.Refusals.{passed}
-use Rattle.rate_cache.specs.declared.LookupAnswer.TheVariants.{Done, Refused}
-use Rattle.rate_cache.specs.Answers.{said}
 use Rattle.rate_cache.specs.Lookups.{refusal_of, level_of, band_ok, bits_ok, HasRow, no_row, no_entry}
 
 -- ---- LM + 1
@@ -108,13 +107,13 @@ gate_off n special p e = rw (p, e)
 -- ---- the answer by its number
 
 -- a refusal
-pub answer_no : (n v : ℕ) {m : ℕ} → m ≡ n → (m ≡ 0 → ⊥) → said (Refused m) ≡ answer n v
+pub answer_no : (n v : ℕ) {m : ℕ} → m ≡ n → (m ≡ 0 → ⊥) → refused m ≡ answer n v
 unfolding answer
 answer_no zero v p h = absurd (h p)
 answer_no (suc n) v p h = ap refused p
 
 -- number 0: what was found
-pub answer-yes : (n v : ℕ) {m w : ℕ} → m ≡ n → m ≡ 0 → w ≡ v → said (Done w) ≡ answer n v
+pub answer-yes : (n v : ℕ) {m w : ℕ} → m ≡ n → m ≡ 0 → w ≡ v → said (Ok w) ≡ answer n v
 unfolding answer
 answer-yes zero v p h q = ap done q
 answer-yes (suc n) v p h q = absurd (omega arith)

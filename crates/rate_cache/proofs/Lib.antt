@@ -5,4 +5,3 @@ pub mod Costs
 pub mod Halvings
 pub mod Packings
 pub mod Gates
-pub mod Said

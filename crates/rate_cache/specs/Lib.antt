@@ -3,5 +3,4 @@ pub mod Pulses
 pub mod Nearest
 pub mod Rows
 pub mod Packed
-pub mod Answers
 pub mod Lookups

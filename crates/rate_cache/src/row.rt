@@ -1,4 +1,5 @@
 // The two lookups in a row of the pulse cache. Callers know them by pulses_for and bits_for alone, not by the search.
+// The table is taken once for each call and lent, so that it is not made in each function.
 ghost use Rattle.std.specs.Prelude.{◌≡◌, ◌+◌, ◌≤◌, ◌<◌, pos};
 ghost use Rattle.modes.specs.CacheBits.{cache_bits, CacheRow};
 ghost use Rattle.rate_cache.specs.Rows.{pulses_for, bits_for};
@@ -17,15 +18,14 @@ fn cost_in(t: &[u8], start: usize, i: usize) -> u32
 }
 
 // The index nearest to the bits, from the table lent: six halvings bring two indices together, then the nearer of them is taken.
+// Not by the library's search, which gives any of equal entries: `low` names one.
 fn nearest_in(t: &[u8], start: usize, bits: u32) -> usize
     requires { (t.now ≡ cache_bits) × CacheRow start × (bits ≤ 81600) }
     ensures { (result ≡ pulses_for start (pos bits)) × (result ≤ 40) }
 {
     let mut lo: usize = 0;
     let mut hi = modes::cache_bits::length_in(t, start);
-    let mut n: u32 = 6;
-    while 0 < n {
-        n -= 1;
+    for _ in 0..6u32 {
         let mid = (lo + hi + 1) / 2;
         let m = modes::cache_bits::entry_in(t, start, mid) + 1;
         if m < bits {

@@ -9,7 +9,6 @@ ghost use Rattle.rate_bands.specs.Reserved.{Reserved};
 ghost use Rattle.rate_skip.specs.Rounds.{left_at, round_of, round_figures, RoundIn};
 
 use crate::RoundFigures;
-use laws::{max32, saturating_sub};
 use modes::fractions::fraction_of;
 use rate_bands::band::{floor_of, floored_of, threshold_of};
 use rate_bands::{AllocCounts, Reserves};
@@ -21,7 +20,7 @@ fn top_of(b: u32, left: u32, first: u32, lo: u32, hi: u32) -> u32
 {
     let w = hi - first;
     let m = left / w * (hi - lo);
-    b + m + saturating_sub(left % w, lo - first)
+    b + m + (left % w).saturating_sub(lo - first)
 }
 
 // What the flag of a round costs: a bit where the top band, of width w, could be coded after a flag was paid.
@@ -31,7 +30,7 @@ fn paid_of(f: AllocCounts, j: usize, w: u32, top: u32) -> u32
 {
     let floor = floor_of(f);
     let t = threshold_of(f, j, w);
-    let m = max32(t, floor + 8);
+    let m = t.max(floor + 8);
     if m <= top { 8 } else { 0 }
 }
 
@@ -64,10 +63,10 @@ pub fn round_of(
     let keep = floored_of(f, top - paid);
     let next = reserve_of(reserve, j - f.start);
     RoundFigures {
-        top: top,
+        top,
         asked: 0 < paid,
-        keep: keep,
-        left: left + b + saturating_sub(reserve, next) - paid - keep,
+        keep,
+        left: left + b + reserve.saturating_sub(next) - paid - keep,
         reserve: next,
     }
 }

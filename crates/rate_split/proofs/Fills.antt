@@ -13,6 +13,8 @@ use Rattle.rate_spec.proofs.Loops.{band-coded, band-skipped}
 use Rattle.rate_bands.specs.Inputs.{alloc_in, bare}
 use Rattle.rate_bands.specs.declared.AllocCounts.{AllocCounts}
 use Rattle.rate_split.specs.Bands.{band_at, coded_at}
+use Rattle.rate_split.specs.Lent.{SameLists}
+use Rattle.rate_split.specs.declared.Lists.{Lists}
 
 module _ {A : Type 0} where
   fill_more : (h : ℕ → A) (mid m : ℕ) (l : List A) → fill h mid (suc m) l ≡ set (fill h mid m l) (mid + m) (h (mid + m))
@@ -55,3 +57,12 @@ module _ (f : AllocCounts) (caps bits : List ℕ) (coded left intensity : ℕ) (
       let i : j - coded < f.end - coded = omega arith in
       let k : get_or (take (f.end - coded) (drop coded kept)) (j - coded) 0 ≡ get_or kept j 0 = rw (get_or-take, get_or-drop, e) in
       sym (rw k at (band-skipped (alloc_in f [] caps) (λ j. get_or bits j 0) coded left intensity dual (take (f.end - coded) (drop coded kept)) j h))
+
+-- from step to step the lists stay the same three
+pub lent_next : {a b c : Lists} → SameLists a b → SameLists b c → SameLists a c
+lent_next p q =
+    record {
+      pulses_are = p.pulses_are ∙ q.pulses_are;
+      fine_are = p.fine_are ∙ q.fine_are;
+      priorities_are = p.priorities_are ∙ q.priorities_are;
+    }

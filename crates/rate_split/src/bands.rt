@@ -1,13 +1,14 @@
 // All bands, the coded ones from below and then the skipped ones. The lists are the caller's: entries outside start..end-1 stay.
-ghost use Rattle.std.specs.Prelude.{◌≡◌, ◌-◌, ◌≤◌, ◌<◌, pos, length, get_or, set};
+ghost use Rattle.std.specs.Prelude.{◌≡◌, ◌-◌, ◌≤◌, ◌<◌, pos, get_or, set};
 ghost use Rattle.laws.specs.Lists.{fill};
 ghost use Rattle.rate_spec.specs.Alloc.{skipped};
 ghost use Rattle.rate_bands.specs.Inputs.{bare, AllocCountsOk};
 ghost use Rattle.rate_split.specs.Splits.{as_band};
 ghost use Rattle.rate_split.specs.Bands.{coded_at, carried_at, band_at, SplitIn};
+ghost use Rattle.rate_split.specs.Lent.{SameLists};
 
-use crate::BandSplit;
 use crate::shares::{part_of, share_of};
+use crate::{BandSplit, Lists};
 use modes::edges::edge_of;
 use rate_bands::AllocCounts;
 use rate_bands::band::floor_of;
@@ -20,19 +21,18 @@ pub fn signed(n: u32) -> i32
     n as i32
 }
 
-// A band's part goes into the lists.
-fn store(p: BandSplit, j: usize, pulses: &mut [i32], fine: &mut [i32], prios: &mut [i32])
-    requires pulses_bound { (p.pulses ≤ 2147483647) × (p.fine ≤ 2147483647) × (p.prio ≤ 2147483647) }
-    requires j_in_bounds { (j < length pulses.old) × (j < length fine.old) × (j < length prios.old) }
-    ensures { (pulses.new ≡ set pulses.old j (pos p.pulses)) × (fine.new ≡ set fine.old j (pos p.fine))
-        × (prios.new ≡ set prios.old j (pos p.prio)) }
-{
-    let a = signed(p.pulses);
-    let b = signed(p.fine);
-    let c = signed(p.prio);
-    pulses[j] = a;
-    fine[j] = b;
-    prios[j] = c;
+impl Lists<'_> {
+    // A band's part goes into the lists.
+    fn store(&mut self, p: BandSplit, j: usize)
+        requires { (p.pulses ≤ 2147483647) × (p.fine ≤ 2147483647) × (p.prio ≤ 2147483647) × (j < 21) }
+        ensures stored { (self.new.pulses.now ≡ set self.old.pulses.now j (pos p.pulses)) × (self.new.fine.now ≡ set self.old.fine.now j (pos p.fine))
+            × (self.new.priorities.now ≡ set self.old.priorities.now j (pos p.prio)) }
+        ensures same { SameLists self.old self.new }
+    {
+        self.pulses[j] = signed(p.pulses);
+        self.fine[j] = signed(p.fine);
+        self.priorities[j] = signed(p.prio);
+    }
 }
 
 // The coded bands: each is split with its share and what the band below handed on. It gives what the last one hands on.
@@ -44,35 +44,31 @@ fn split_coded(
     left: u32,
     intensity: usize,
     dual: bool,
-    pulses: &mut [i32],
-    fine: &mut [i32],
-    prios: &mut [i32],
+    lists: &mut Lists,
 ) -> u32
-    requires split_in { SplitIn f bits.now coded left }
-    requires pulses_len { (length pulses.old ≡ 21) × (length fine.old ≡ 21) × (length prios.old ≡ 21) }
-    ensures { (result ≡ carried_at f caps.now bits.now coded left intensity dual (coded - f.start))
-        × (pulses.new
+    requires { SplitIn f bits.now coded left }
+    ensures filled { (result ≡ carried_at f caps.now bits.now coded left intensity dual (coded - f.start))
+        × (lists.new.pulses.now
         ≡ fill (λ j. pos (coded_at f caps.now bits.now coded left intensity dual j).pulses) f.start (coded - f.start)
-        pulses.old)
-        × (fine.new
+        lists.old.pulses.now)
+        × (lists.new.fine.now
         ≡ fill (λ j. pos (coded_at f caps.now bits.now coded left intensity dual j).fine) f.start (coded - f.start)
-        fine.old)
-        × (prios.new
+        lists.old.fine.now)
+        × (lists.new.priorities.now
         ≡ fill (λ j. pos (coded_at f caps.now bits.now coded left intensity dual j).prio) f.start (coded - f.start)
-        prios.old) }
+        lists.old.priorities.now) }
+    ensures same { SameLists lists.old lists.new }
 {
     let start = f.start;
     let g = share_of(start, coded, left);
     let mut lo = g.first;
     let mut balance: u32 = 0;
-    let mut j = start;
-    while j < coded {
+    for j in start..coded {
         let hi = edge_of(j + 1);
         let p = part_of(f, g, caps[j], bits[j], lo, hi, j, intensity, dual, balance);
-        store(p, j, pulses, fine, prios);
+        lists.store(p, j);
         balance = p.balance;
         lo = hi;
-        j += 1;
     }
     balance
 }
@@ -84,44 +80,25 @@ fn skipped_of(f: AllocCounts, kept: u32) -> BandSplit
 {
     let floor = floor_of(f);
     let e = kept / floor;
-    if e < 1 {
-        BandSplit {
-            pulses: 0,
-            fine: e,
-            prio: 1,
-            balance: 0,
-        }
-    } else {
-        BandSplit {
-            pulses: 0,
-            fine: e,
-            prio: 0,
-            balance: 0,
-        }
+    BandSplit {
+        pulses: 0,
+        fine: e,
+        prio: u32::from(e < 1),
+        balance: 0,
     }
 }
 
 // The skipped bands.
-fn split_skipped(
-    f: AllocCounts,
-    coded: usize,
-    kept: &[u32; 21],
-    pulses: &mut [i32],
-    fine: &mut [i32],
-    prios: &mut [i32],
-)
-    requires alloc_counts_ok { AllocCountsOk f × (coded ≤ f.end) }
-    requires pulses_len { (length pulses.old ≡ 21) × (length fine.old ≡ 21) × (length prios.old ≡ 21) }
-    ensures { (pulses.new ≡ fill (λ j. pos (skipped (bare f) (get_or kept.now j 0)).pulses) coded (f.end - coded) pulses.old)
-        × (fine.new ≡ fill (λ j. pos (skipped (bare f) (get_or kept.now j 0)).fine) coded (f.end - coded) fine.old)
-        × (prios.new ≡ fill (λ j. pos (skipped (bare f) (get_or kept.now j 0)).prio) coded (f.end - coded) prios.old) }
+fn split_skipped(f: AllocCounts, coded: usize, kept: &[u32; 21], lists: &mut Lists)
+    requires { AllocCountsOk f × (coded ≤ f.end) }
+    ensures filled { (lists.new.pulses.now ≡ fill (λ j. pos (skipped (bare f) (get_or kept.now j 0)).pulses) coded (f.end - coded) lists.old.pulses.now)
+        × (lists.new.fine.now ≡ fill (λ j. pos (skipped (bare f) (get_or kept.now j 0)).fine) coded (f.end - coded) lists.old.fine.now)
+        × (lists.new.priorities.now ≡ fill (λ j. pos (skipped (bare f) (get_or kept.now j 0)).prio) coded (f.end - coded) lists.old.priorities.now) }
+    ensures same { SameLists lists.old lists.new }
 {
-    let end = f.end;
-    let mut j = coded;
-    while j < end {
+    for j in coded..f.end {
         let p = skipped_of(f, kept[j]);
-        store(p, j, pulses, fine, prios);
-        j += 1;
+        lists.store(p, j);
     }
 }
 
@@ -135,26 +112,22 @@ pub fn split_bands(
     left: u32,
     intensity: usize,
     dual: bool,
-    pulses: &mut [i32],
-    fine: &mut [i32],
-    prios: &mut [i32],
+    lists: &mut Lists,
 ) -> u32
-    requires split_in { SplitIn f bits.now coded left }
-    requires pulses_len { (length pulses.old ≡ 21) × (length fine.old ≡ 21) × (length prios.old ≡ 21) }
-    ensures { (result ≡ carried_at f caps.now bits.now coded left intensity dual (coded - f.start))
-        × (pulses.new
+    requires { SplitIn f bits.now coded left }
+    ensures filled { (result ≡ carried_at f caps.now bits.now coded left intensity dual (coded - f.start))
+        × (lists.new.pulses.now
         ≡ fill (λ j. pos (band_at f caps.now bits.now coded left intensity dual kept.now j).pulses) f.start
-        (f.end - f.start) pulses.old)
-        × (fine.new
+        (f.end - f.start) lists.old.pulses.now)
+        × (lists.new.fine.now
         ≡ fill (λ j. pos (band_at f caps.now bits.now coded left intensity dual kept.now j).fine) f.start
-        (f.end - f.start) fine.old)
-        × (prios.new
+        (f.end - f.start) lists.old.fine.now)
+        × (lists.new.priorities.now
         ≡ fill (λ j. pos (band_at f caps.now bits.now coded left intensity dual kept.now j).prio) f.start
-        (f.end - f.start) prios.old) }
+        (f.end - f.start) lists.old.priorities.now) }
+    ensures same { SameLists lists.old lists.new }
 {
-    let balance = split_coded(
-        f, caps, bits, coded, left, intensity, dual, pulses, fine, prios,
-    );
-    split_skipped(f, coded, kept, pulses, fine, prios);
+    let balance = split_coded(f, caps, bits, coded, left, intensity, dual, lists);
+    split_skipped(f, coded, kept, lists);
     balance
 }

@@ -19,19 +19,6 @@ module _ (over : ℕ → Bool) (n lo₀ hi₀ : ℕ) where
     pub found-is : (halve over (n - trials) lo hi).0 ≡ (halve over n lo₀ hi₀).0
     pub count-is : trials + (halve over (n - trials) lo hi).1 ≡ (halve over n lo₀ hi₀).1
 
-  -- before the first trial
-  pub search_start : lo₀ < hi₀ → hi₀ ≤ lo₀ + 2 ^ n → Search lo₀ hi₀ 0
-  search_start h g =
-      let e : n - 0 ≡ n = omega arith in
-      record {
-        apart = h;
-        hi-le = omega arith;
-        trials-le = omega arith;
-        near = rw e g;
-        found-is = rw e;
-        count-is = rw e (omega arith);
-      }
-
   module _ (lo hi trials : ℕ) (s : Search lo hi trials) where
     some_left : suc lo < hi → 0 < n - trials
     some_left h = pow_some (n - trials) (omega (arith, s.near))
@@ -76,10 +63,10 @@ module _ (over : ℕ → Bool) (n lo₀ hi₀ : ℕ) where
     none_left zero h = refl
     none_left (suc k) h = rw (le-leb hi (suc lo) h)
 
-    -- neighbours: lo is what the whole search finds
-    pub search_found : hi ≤ suc lo → lo ≡ (halve over n lo₀ hi₀).0
-    search_found h = sym (ap (λ (r : ℕ × ℕ). r.0) (none_left (n - trials) h)) ∙ s.found-is
-
-    -- and the trials made are all of them
-    pub search_count : hi ≤ suc lo → trials ≡ (halve over n lo₀ hi₀).1
-    search_count h = omega (arith, ap (λ (r : ℕ × ℕ). r.1) (none_left (n - trials) h), s.count-is)
+    -- neighbours: lo is what the whole search finds, and the trials made are all of them
+    pub search_done : hi ≤ suc lo → (lo, trials) ≡ halve over n lo₀ hi₀
+    search_done h =
+        let e = none_left (n - trials) h in
+        let found : lo ≡ (halve over n lo₀ hi₀).0 = sym (ap (λ (r : ℕ × ℕ). r.0) e) ∙ s.found-is in
+        let count : trials ≡ (halve over n lo₀ hi₀).1 = omega (arith, ap (λ (r : ℕ × ℕ). r.1) e, s.count-is) in
+        rw (found, count) refl

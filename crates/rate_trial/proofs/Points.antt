@@ -2,10 +2,9 @@
 use Prim.Native.Nat.{ℕ, zero, suc, ◌-◌, ◌≤◌, ◌<◌}
 use mathlib.Core.Bool.{Bool}
 use mathlib.Core.List.{List, []}
-use mathlib.Core.Path.{◌≡◌, refl, sym, ◌∙◌, ap}
+use mathlib.Core.Path.{◌≡◌, refl, ◌∙◌, ap}
 use native.Mathlib.Omega.{arith}
 use lib.Dec.{ltb}
-use lib.ListN.{length}
 use Rattle.laws.proofs.Sums.{sum_same}
 use Rattle.rate_spec.specs.Reserves.{budget, dual_reserve, intensity_reserve, skip_reserve, stereo_fits}
 use Rattle.rate_spec.specs.Trials.{floored, kept_bits, over, reached, trial_takes}
@@ -40,10 +39,6 @@ module _ (f : AllocCounts) (offsets caps : List ℕ) (x : ℕ → ℕ) where
       ap (ltb (budget (alloc_in f [] caps)))
       (sum_same (trial_takes (alloc_in f [] caps) x) (trial_takes (alloc_in f offsets caps) x) (f.end - f.start) f.start (λ i p q. takes_any i))
 
--- a list with an entry for each band
-pub record Whole (l : List ℕ) : Type 0 where
-  pub length-is : length l ≡ 21
-
 module _ (f : AllocCounts) (offsets caps : List ℕ) (g : AllocCountsOk f) (k : AllocListsOk offsets caps) (v : ℕ) where
   -- at vector v: `lows` holds its bits, and no part of a gap is added
   module _ (lows : List ℕ) (h : Holds (alloc_in f offsets caps) (lower_bits (alloc_in f offsets caps) v) lows) where
@@ -59,18 +54,13 @@ module _ (f : AllocCounts) (offsets caps : List ℕ) (g : AllocCountsOk f) (k : 
           gaps_le = λ j p q. rw (h j p q) (omega (arith, low_small j p q));
         }
 
-  -- what a trial with `lows` says is what a trial of vector v says: where X follows from it, X holds, and the list has its length
-  pub vector_on : {X : Type 0} {lows : List ℕ} {r b : Bool} → Holds (alloc_in f offsets caps) (lower_bits (alloc_in f offsets caps) v) lows
-      → length lows ≡ 21 → r ≡ over (alloc_in f [] caps) (point_bits lows lows 0) → r ≡ b
-      → (over (alloc_in f offsets caps) (lower_bits (alloc_in f offsets caps) v) ≡ b → X) → X × Whole lows
-  vector_on {lows = lows} h n p q x = (
-    x
-        (sym (over_any f offsets caps (point_bits lows lows 0)
-        ∙ over-same (alloc_in f offsets caps) (point_bits lows lows 0) (lower_bits (alloc_in f offsets caps) v) (omega (arith, g.start-lt))
-        (λ i u w. omega (arith, h i u w)))
-        ∙ sym p ∙ q),
-    record { length-is = n },
-  )
+  -- what a trial with `lows` says is what a trial of vector v says
+  pub vector_says : {r : Bool} (lows : List ℕ) → Holds (alloc_in f offsets caps) (lower_bits (alloc_in f offsets caps) v) lows
+      → r ≡ over (alloc_in f [] caps) (point_bits lows lows 0) → r ≡ over (alloc_in f offsets caps) (lower_bits (alloc_in f offsets caps) v)
+  vector_says lows h p =
+      p ∙ over_any f offsets caps (point_bits lows lows 0)
+      ∙ over-same (alloc_in f offsets caps) (point_bits lows lows 0) (lower_bits (alloc_in f offsets caps) v) (omega (arith, g.start-lt))
+      (λ i u w. omega (arith, h i u w))
 
   -- q 64ths of the way from vector v to the next
   module _ {lows gaps : List ℕ} (h : Neighbours (alloc_in f offsets caps) v lows gaps) (q : ℕ) where
@@ -92,12 +82,11 @@ module _ (f : AllocCounts) (offsets caps : List ℕ) (g : AllocCountsOk f) (k : 
         }
 
     -- what the trial says is what a trial of the interpolated bits says
-    pub point_says : {r b : Bool} → r ≡ over (alloc_in f [] caps) (point_bits lows gaps q) → r ≡ b
-        → over (alloc_in f offsets caps) (interpolated (alloc_in f offsets caps) v q) ≡ b
-    point_says u w =
-        sym (over_any f offsets caps (point_bits lows gaps q)
-        ∙ over-same (alloc_in f offsets caps) (point_bits lows gaps q) (interpolated (alloc_in f offsets caps) v q) (omega (arith, g.start-lt)) point_is)
-        ∙ sym u ∙ w
+    pub point_says : {r : Bool} → r ≡ over (alloc_in f [] caps) (point_bits lows gaps q)
+        → r ≡ over (alloc_in f offsets caps) (interpolated (alloc_in f offsets caps) v q)
+    point_says u =
+        u ∙ over_any f offsets caps (point_bits lows gaps q)
+        ∙ over-same (alloc_in f offsets caps) (point_bits lows gaps q) (interpolated (alloc_in f offsets caps) v q) (omega (arith, g.start-lt)) point_is
 
     -- what a band keeps of its bits there is what it keeps of the interpolated bits
     pub point_keeps : (j : ℕ) → f.start ≤ j → j < f.end

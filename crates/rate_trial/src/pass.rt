@@ -5,10 +5,9 @@ ghost use Rattle.laws.specs.Places.{sum_of};
 ghost use Rattle.rate_spec.specs.Trials.{floored, kept_bits};
 ghost use Rattle.rate_bands.specs.Inputs.{bare, alloc_in, AllocCountsOk};
 ghost use Rattle.rate_bands.specs.Tilts.{Thresholds};
-ghost use Rattle.rate_trial.specs.Points.{point_bits, PointOk};
+ghost use Rattle.rate_trial.specs.Points.{point_bits};
 
-use crate::trial::between;
-use laws::min32;
+use crate::trial::Point;
 use rate_bands::AllocCounts;
 use rate_bands::band::floored_of;
 
@@ -18,37 +17,24 @@ pub fn keep_of(f: AllocCounts, reached: bool, x: u32, cap: u32) -> u32
     ensures { (result ≡ min (cond reached x (floored (bare f) x)) cap) × (result ≤ 32767) }
 {
     if reached {
-        return min32(x, cap);
+        return x.min(cap);
     }
     let y = floored_of(f, x);
-    min32(y, cap)
+    y.min(cap)
 }
 
-// Writes what each band keeps of its low bits and q 64ths of its gap, and gives the sum.
-pub fn last_pass(
-    f: AllocCounts,
-    caps: &[u32; 21],
-    thresholds: &[u32; 21],
-    lows: &[u32; 21],
-    gaps: &[u32; 21],
-    q: u32,
-    bits: &mut [u32; 21],
-) -> u32
-    requires { AllocCountsOk f × AllLe 32767 caps.now × Thresholds (bare f) thresholds.now × PointOk f lows.now gaps.now q }
-    ensures { let kept = kept_bits (alloc_in f [] caps.now) (point_bits lows.now gaps.now q) in
-        (result ≡ sum_of kept f.start (f.end - f.start)) × (bits.new ≡ fill kept f.start (f.end - f.start) bits.old) }
+// Writes what each band keeps of its bits at a point, and gives the sum.
+pub fn last_pass(p: &Point, caps: &[u32; 21], thresholds: &[u32; 21], bits: &mut [u32; 21]) -> u32
+    requires { AllLe 32767 caps.now × Thresholds (bare p.now.f) thresholds.now }
+    ensures { let kept = kept_bits (alloc_in p.now.f [] caps.now) (point_bits p.now.lows.now p.now.gaps.now p.now.q) in
+        (result ≡ sum_of kept p.now.f.start (p.now.f.end - p.now.f.start)) × (bits.new ≡ fill kept p.now.f.start (p.now.f.end - p.now.f.start) bits.old) }
 {
-    let start = f.start;
     let mut sum: u32 = 0;
     let mut reached = false;
-    let mut j = f.end;
-    while start < j {
-        j -= 1;
-        let low = lows[j];
-        let gap = gaps[j];
-        let x = between(low, gap, q);
+    for j in (p.f.start..p.f.end).rev() {
+        let x = p.bits(j);
         reached = (thresholds[j] <= x) | reached;
-        let kept = keep_of(f, reached, x, caps[j]);
+        let kept = keep_of(p.f, reached, x, caps[j]);
         bits[j] = kept;
         sum += kept;
     }

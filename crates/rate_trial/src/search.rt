@@ -1,53 +1,85 @@
 // Both searches, by halving: a figure that the budget, `shared`, pays for, and whose next it does not, or which is the last that is tried. It is
-// the highest that the budget pays for where no cap is below the floor (rate_spec, Highest). lo is within the budget, hi is taken to be over it.
-ghost use Rattle.std.specs.Prelude.{◌≡◌, ◌≤◌, ◌<◌, length};
+// the highest that the budget pays for where no cap is below the floor (rate_spec, Highest).
+ghost use Rattle.std.specs.Prelude.{◌≡◌, ℕ, Bool, ◌≤◌, ◌<◌, ◌^◌};
+ghost use Rattle.laws.specs.Lists.{AllLe};
 ghost use Rattle.modes.specs.Vectors.{vectors};
 ghost use Rattle.rate_spec.specs.Reserves.{budget};
-ghost use Rattle.rate_spec.specs.Trials.{vector, sixtyfourths};
+ghost use Rattle.rate_spec.specs.Trials.{halve, over, vector, sixtyfourths};
+ghost use Rattle.rate_spec.specs.Vectors.{lower_bits};
 ghost use Rattle.rate_bands.specs.Inputs.{bare, alloc_in, AllocCountsOk, AllocListsOk};
-ghost use Rattle.rate_bands.specs.Tilts.{Neighbours, Thresholds, Tilts};
+ghost use Rattle.rate_bands.specs.Tilts.{Neighbours, Thresholds};
+ghost use Rattle.rate_trial.specs.Points.{PointOk};
 
 use crate::Choice;
-use crate::trial::over_of;
+use crate::trial::{Point, over_of};
 use rate_bands::AllocCounts;
-use rate_bands::lists::lows_of;
+use rate_bands::lists::{BandTilts, lows_of};
 
-// The vector that halving finds, of 0..10, with the number of trials. `lows` is left with the bits of the last vector that was tried.
-pub fn vector_of(
-    f: AllocCounts,
-    offsets: &[u32; 21],
-    caps: &[u32; 21],
-    shared: u32,
-    steps: &[u8],
-    thresholds: &[u32; 21],
-    scales: &[u32; 21],
-    ups: &[u32; 21],
-    downs: &[u32; 21],
-    lows: &mut [u32; 21],
-) -> Choice
-    requires { AllocCountsOk f × AllocListsOk offsets.now caps.now × (shared ≡ budget (bare f)) × (steps.now ≡ vectors)
-        × Thresholds (bare f) thresholds.now × Tilts (bare f) scales.now ups.now downs.now × (length lows.old ≡ 21) }
-    ensures { let a = alloc_in f offsets.now caps.now in
-        (result.v ≡ (vector a).0) × (result.trials ≡ (vector a).1) × (result.v < 11) × (length lows.new ≡ 21) }
+// Halves 0..top-1, with 0 taken to be within and `top` to be over, until neighbours are left: the lower one, and how many figures were tried.
+fn halve<F: Fn(usize) -> bool>(top: usize, over: F) -> Choice
+    requires bounds { (0 < top) × (top ≤ 64) }
+    requires tries { (x : ℕ) → x < top → F.pre over x }
+    ensures halved { (said : ℕ → Bool) (n : ℕ) → top ≤ 2 ^ n → ((x : ℕ) (r : Bool) → x < top → F.post over x r → r ≡ said x)
+        → (result.v, result.trials) ≡ halve said n 0 top }
+    ensures within { result.v < top }
 {
-    let mut lo: usize = 0;
-    let mut hi: usize = 11;
+    let mut lo = 0;
+    let mut hi = top;
     let mut trials: u32 = 0;
     while lo + 1 < hi {
         let mid = (lo + hi) / 2;
-        lows_of(f, offsets, caps, steps, mid, scales, ups, downs, lows);
-        let over = over_of(f, caps, shared, thresholds, lows, lows, 0);
         trials += 1;
-        if over {
+        if over(mid) {
             hi = mid;
         } else {
             lo = mid;
         }
     }
-    Choice {
-        v: lo,
-        trials: trials,
-    }
+    Choice { v: lo, trials }
+}
+
+// Whether the bands take more than the budget at vector v.
+fn vector_over(
+    t: &BandTilts,
+    offsets: &[u32; 21],
+    caps: &[u32; 21],
+    shared: u32,
+    steps: &[u8],
+    thresholds: &[u32; 21],
+    v: usize,
+) -> bool
+    requires { AllocListsOk offsets.now caps.now × (shared ≡ budget (bare t.now.f)) × (steps.now ≡ vectors)
+        × Thresholds (bare t.now.f) thresholds.now × (v < 11) }
+    ensures { let a = alloc_in t.now.f offsets.now caps.now in result ≡ over a (lower_bits a v) }
+{
+    // what stands in the list is overwritten: a copy, since zeros would be written by a call for each trial
+    let mut lows = t.scales;
+    lows_of(t, offsets, caps, steps, v, &mut lows);
+    let p = Point {
+        f: t.f,
+        lows: &lows,
+        gaps: &lows,
+        q: 0,
+    };
+    over_of(&p, caps, shared, thresholds)
+}
+
+// The vector that halving finds, of 0..10, with the number of trials.
+pub fn vector_of(
+    t: &BandTilts,
+    offsets: &[u32; 21],
+    caps: &[u32; 21],
+    shared: u32,
+    steps: &[u8],
+    thresholds: &[u32; 21],
+) -> Choice
+    requires { AllocListsOk offsets.now caps.now × (shared ≡ budget (bare t.now.f)) × (steps.now ≡ vectors)
+        × Thresholds (bare t.now.f) thresholds.now }
+    ensures { let a = alloc_in t.now.f offsets.now caps.now in
+        (result.v ≡ (vector a).0) × (result.trials ≡ (vector a).1) × (result.v < 11) }
+{
+    let trial = |v| vector_over(t, offsets, caps, shared, steps, thresholds, v);
+    halve(11, trial)
 }
 
 // How many 64ths, of 0..63, of the way from vector v, whose bits are `lows`, to the next halving finds.
@@ -65,18 +97,17 @@ pub fn sixtyfourths_of(
         × Neighbours (alloc_in f offsets.now caps.now) v lows.now gaps.now }
     ensures { (result ≡ sixtyfourths (alloc_in f offsets.now caps.now) v) × (result ≤ 64) }
 {
-    let mut lo: u32 = 0;
-    let mut hi: u32 = 64;
-    let mut trials: u32 = 0;
-    while lo + 1 < hi {
-        let mid = (lo + hi) / 2;
-        let over = over_of(f, caps, shared, thresholds, lows, gaps, mid);
-        trials += 1;
-        if over {
-            hi = mid;
-        } else {
-            lo = mid;
-        }
-    }
-    lo
+    let trial = |q|
+        requires { AllocCountsOk f × PointOk f lows.now gaps.now q × AllLe 32767 caps.now × (shared ≡ budget (bare f))
+            × Thresholds (bare f) thresholds.now }
+    {
+        let p = Point {
+            f,
+            lows,
+            gaps,
+            q: q as u32,
+        };
+        over_of(&p, caps, shared, thresholds)
+    };
+    halve(64, trial).v as u32
 }

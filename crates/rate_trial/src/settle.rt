@@ -10,6 +10,7 @@ ghost use Rattle.rate_bands.specs.Tilts.{Neighbours};
 
 use crate::pass::last_pass;
 use crate::search::{sixtyfourths_of, vector_of};
+use crate::trial::Point;
 use crate::{Choice, Settled};
 use modes::vectors::table;
 use rate_bands::AllocCounts;
@@ -33,17 +34,10 @@ pub fn choose(
         × Neighbours a result.v lows.new gaps.new }
 {
     let steps = table();
-    let mut scales = [0u32; 21];
-    let mut ups = [0u32; 21];
-    let mut downs = [0u32; 21];
-    tilts(f, thresholds, &mut scales, &mut ups, &mut downs);
-    let found = vector_of(
-        f, offsets, caps, shared, &steps, thresholds, &scales, &ups, &downs, lows,
-    );
+    let t = tilts(f, thresholds);
+    let found = vector_of(&t, offsets, caps, shared, &steps, thresholds);
     let v = found.v;
-    neighbours(
-        f, offsets, caps, &steps, v, &scales, &ups, &downs, lows, gaps,
-    );
+    neighbours(&t, offsets, caps, &steps, v, lows, gaps);
     found
 }
 
@@ -68,7 +62,13 @@ pub fn settle(
     let found = choose(f, offsets, caps, shared, thresholds, &mut lows, &mut gaps);
     let v = found.v;
     let q = sixtyfourths_of(f, offsets, caps, shared, v, thresholds, &lows, &gaps);
-    let sum = last_pass(f, caps, thresholds, &lows, &gaps, q, bits);
+    let p = Point {
+        f,
+        lows: &lows,
+        gaps: &gaps,
+        q,
+    };
+    let sum = last_pass(&p, caps, thresholds, bits);
     Settled {
         left: shared - sum,
         trials: found.trials,

@@ -1,57 +1,34 @@
 -- What a reader that holds its packet says, and how it moves: what is said by the calls by value, of its packet and its numbers.
 use Rattle.std.specs.Prelude.{ℕ, true, List, ℤ, Float}
 use Rattle.std.specs.Borrow.{Bor}
-use Rattle.entcode.specs.Said.{Said, answer}
+use Rattle.entcode.specs.Said.{Said, answer, said}
 use Rattle.entcode.specs.Said.Said.{done, refused}
 use Rattle.entcode.specs.Sym.{Shape}
 use Rattle.entdec.specs.declared.Reader.{Reader}
-use Rattle.entdec.specs.declared.ReadSymbol.{ReadSymbol}
+use Rattle.entdec.specs.Coded.{ReadSymbol}
 use Rattle.entdec.specs.Answer.{start_of}
 use Rattle.entdec.specs.Rule.{refusal_r}
 use Rattle.entdec.specs.Symbols.{read_sym}
-use Rattle.laplace.specs.declared.LapSym.{LapSym}
+use Rattle.laplace.specs.Coded.{LapSym}
 use Rattle.laplace.specs.Answer.{reading}
 use Rattle.rate.specs.declared.AllocNumbers.{AllocNumbers}
-use Rattle.rate.specs.declared.ReadAllocation.{ReadAllocation}
+use Rattle.rate.specs.Allocations.{ReadAllocation}
 use Rattle.rate.specs.Question.{Lists}
 use Rattle.rate.specs.Answer.{AfterRead as AllocAnswer, reading as allocating}
 use Rattle.quant_bands.specs.Answer.{After as EnergyAnswer, coarse_reading}
 use Rattle.reader_held.specs.declared.EcDec.{EcDec}
 use Rattle.reader_held.specs.declared.Opened.{Opened}
-use Rattle.reader_held.specs.declared.Begun.{Begun}
 use Rattle.reader_held.specs.declared.Step.{Step}
-use Rattle.reader_held.specs.declared.Symbol.{Symbol}
-use Rattle.reader_held.specs.declared.Symbol.TheVariants as symbol
-use Rattle.reader_held.specs.declared.ValueStep.{ValueStep}
-use Rattle.reader_held.specs.declared.Value.{Value}
-use Rattle.reader_held.specs.declared.Value.TheVariants as value
-use Rattle.reader_held.specs.declared.AllocStep.{AllocStep}
 use Rattle.reader_held.specs.declared.Allocation.{Allocation}
-use Rattle.reader_held.specs.declared.Allocated.{Allocated}
-use Rattle.reader_held.specs.declared.Allocated.TheVariants as allocated
-use Rattle.reader_held.specs.declared.EnergiesStep.{EnergiesStep}
-use Rattle.reader_held.specs.declared.Energies.{Energies}
-use Rattle.reader_held.specs.declared.Energies.TheVariants as energies
 
 -- the reader after a call: the same packet, other numbers
 abbrev pub moved : EcDec → Reader → EcDec
 moved h d = record { buf = h.buf; num = d }
 
--- ---- a new reader
-
 -- the numbers of a reader whose packet was refused; they break the rule of a reader: their range is 0
 unfoldable pub no_reader : Reader
 no_reader =
     record { storage = 0; offs = 0; ends = 0; window = 0; waiting = 0; total = 0; rng = 0; val = 0; ext = 0; rem = 0; error = true }
-
--- the numbers of a new reader and 0, or those and the number of the refusal
-abbrev pub begun_of : Said Reader → Begun
-begun_of (done d) = record { num = d; code = 0 }
-begun_of (refused n) = record { num = no_reader; code = n }
-
--- a reader of the packet s
-abbrev pub opened_of : Bor (List ℕ) → Opened
-opened_of s = record { dec = record { buf = s; num = (begun_of (start_of s.now)).num }; code = (begun_of (start_of s.now)).code }
 
 -- ---- what is said, apart from the numbers
 
@@ -78,16 +55,31 @@ pub record After (A L : Type 0) : Type 0 where
 abbrev pub both : {A L : Type 0} → Stepped A → L → After A L
 both r l = record { step = r; lent = l }
 
+-- what an answer says, with the numbers after it
+abbrev pub said_step : {A : Type 0} → Step A → Stepped A
+said_step r = stepped (said r.answer) r.next
+
+-- ---- a new reader
+
+-- the numbers of a new reader; or those and the number of the refusal
+abbrev pub begun_of : Said Reader → Stepped Unit
+begun_of (done d) = stepped (done tt) d
+begun_of (refused n) = stepped (refused n) no_reader
+
+-- a reader, and what is said of its packet
+pub record Opening : Type 0 where
+  pub said : Said Unit
+  pub dec : EcDec
+
+-- what an opened reader says
+abbrev pub said_opening : Opened → Opening
+said_opening r = record { said = said r.answer; dec = r.dec }
+
+-- a reader of the packet s; a refused one holds the packet and the numbers that break the rule
+abbrev pub opened_of : Bor (List ℕ) → Opening
+opened_of s = record { said = (begun_of (start_of s.now)).said; dec = record { buf = s; num = (begun_of (start_of s.now)).next } }
+
 -- ---- a symbol
-
--- what an answer says
-abbrev pub said_symbol : Symbol → Said ℕ
-said_symbol (symbol.Done v) = done v
-said_symbol (symbol.Refused n) = refused n
-
--- with the numbers after it
-abbrev pub said_step : Step → Stepped ℕ
-said_step r = stepped (said_symbol r.answer) r.next
 
 -- what the call by value says of a symbol, apart
 abbrev pub step_of : Reader → Said ReadSymbol → Stepped ℕ
@@ -103,15 +95,6 @@ read_held h r = symbol_step h r.buf.now r.num
 
 -- ---- a Laplace value
 
--- what an answer says
-abbrev pub said_value : Value → Said ℤ
-said_value (value.Done v) = done v
-said_value (value.Refused n) = refused n
-
--- with the numbers after it
-abbrev pub said_value_step : ValueStep → Stepped ℤ
-said_value_step r = stepped (said_value r.answer) r.next
-
 -- what the call by value says of a Laplace value, apart
 abbrev pub lap_of : Reader → Said LapSym → Stepped ℤ
 lap_of d a = apart (λ (y : LapSym). y.value) (λ (y : LapSym). y.next) d a
@@ -122,18 +105,9 @@ lap_held fs decay r = lap_of r.num (reading fs decay r.buf.now r.num)
 
 -- ---- an allocation
 
--- what an answer says
-abbrev pub said_allocated : Allocated → Said Allocation
-said_allocated (allocated.Done y) = done y
-said_allocated (allocated.Refused n) = refused n
-
--- with the numbers after it
-abbrev pub said_alloc_step : AllocStep → Stepped Allocation
-said_alloc_step r = stepped (said_allocated r.answer) r.next
-
--- and the lent lists after the call
-abbrev pub alloc_after : AllocStep → Lists → After Allocation Lists
-alloc_after r l = record { step = said_alloc_step r; lent = l }
+-- what an answer says, with the numbers and the lent lists after it
+abbrev pub alloc_after : Step Allocation → Lists → After Allocation Lists
+alloc_after r l = record { step = said_step r; lent = l }
 
 -- an allocation without the reader after it
 abbrev pub shares_of : ReadAllocation → Allocation
@@ -149,18 +123,9 @@ alloc_held q offsets caps l r = alloc_of r.num (allocating q offsets caps r.buf.
 
 -- ---- coarse energies
 
--- what an answer says: the energies are in the lent list, so that there is no value
-abbrev pub said_energies : Energies → Said Unit
-said_energies energies.Done = done tt
-said_energies (energies.Refused n) = refused n
-
--- with the numbers after it
-abbrev pub said_energies_step : EnergiesStep → Stepped Unit
-said_energies_step r = stepped (said_energies r.answer) r.next
-
--- and the lent energies after the call
-abbrev pub coarse_after : EnergiesStep → List Float → After Unit (List Float)
-coarse_after r es = record { step = said_energies_step r; lent = es }
+-- what an answer says, with the numbers and the lent energies after it: they are in the lent list, so that there is no value
+abbrev pub coarse_after : Step Unit → List Float → After Unit (List Float)
+coarse_after r es = record { step = said_step r; lent = es }
 
 -- what the call by value says of coarse energies, apart, with the energies
 abbrev pub coarse_of : Reader → EnergyAnswer → After Unit (List Float)

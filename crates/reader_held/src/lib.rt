@@ -1,28 +1,18 @@
 // A reader that holds the packet's bytes and its place in them, over the calls that take a state by value.
-// Document 01, "Use these forms in these places". The names are the crate's; each function changes the reader that it is lent. What
-// branches stands in `moves`, and `plain` is for callers that hold no reader.
+// Document 01, "Use these forms in these places". The names are the crate's; each function changes the reader that it is lent, and a refusal
+// leaves it. `plain` is for callers that hold no reader. Each call stays by its own name, which docs/contracts and the theorems of `decided` have.
 #![tactic(auto)]
 
 ghost use Rattle.std.specs.Prelude.{◌≡◌};
+ghost use Rattle.entcode.specs.Said.{said};
 ghost use Rattle.entcode.specs.Sym.Shape.{bit, table, uint, raw};
 ghost use Rattle.rate.specs.Question.{lists};
-ghost use Rattle.reader_held.specs.Held.{
-  moved,
-  opened_of,
-  said_symbol,
-  read_held,
-  said_value,
-  lap_held,
-  said_allocated,
-  alloc_held,
-  said_energies,
-  coarse_held,
-};
+ghost use Rattle.reader_held.specs.Held.{moved, no_reader, said_opening, opened_of, read_held, lap_held, alloc_held, coarse_held};
 
+use entcode::Refusal;
 use entdec::Reader;
 use rate::AllocNumbers;
 
-pub mod moves;
 pub mod plain;
 
 // A reader: the packet, and its numbers.
@@ -32,45 +22,18 @@ pub struct EcDec<'a> {
     pub num: Reader,
 }
 
-// A reader, and 0 or the number of the refusal.
+// A reader, and whether its packet was refused. No Result: `opened_of` promises of a refused packet too what the reader holds, so that every call
+// refuses it.
 #[derive(Clone, Copy)]
 pub struct Opened<'a> {
     pub dec: EcDec<'a>,
-    pub code: u32,
+    pub answer: Result<(), Refusal>,
 }
 
-// The numbers of a new reader, and 0 or the number of the refusal.
+// What a call answers, and the numbers after it, which a refusal leaves.
 #[derive(Clone, Copy)]
-pub struct Begun {
-    pub num: Reader,
-    pub code: u32,
-}
-
-// What a read answers: the value, or the number of the refusal.
-#[derive(Clone, Copy)]
-pub enum Symbol {
-    Done(u32),
-    Refused(u32),
-}
-
-// An answer, and the numbers after it.
-#[derive(Clone, Copy)]
-pub struct Step {
-    pub answer: Symbol,
-    pub next: Reader,
-}
-
-// What a read of a Laplace value answers.
-#[derive(Clone, Copy)]
-pub enum Value {
-    Done(i32),
-    Refused(u32),
-}
-
-// That, and the numbers after it.
-#[derive(Clone, Copy)]
-pub struct ValueStep {
-    pub answer: Value,
+pub struct Step<T> {
+    pub answer: Result<T, Refusal>,
     pub next: Reader,
 }
 
@@ -84,94 +47,89 @@ pub struct Allocation {
     pub dual: i32,
 }
 
-// What reading an allocation answers.
-#[derive(Clone, Copy)]
-pub enum Allocated {
-    Done(Allocation),
-    Refused(u32),
-}
-
-// That, and the numbers after it.
-#[derive(Clone, Copy)]
-pub struct AllocStep {
-    pub answer: Allocated,
-    pub next: Reader,
-}
-
-// What reading energies answers: the energies stand in the lent list, or the number of the refusal.
-#[derive(Clone, Copy)]
-pub enum Energies {
-    Done,
-    Refused(u32),
-}
-
-// That, and the numbers after it.
-#[derive(Clone, Copy)]
-pub struct EnergiesStep {
-    pub answer: Energies,
-    pub next: Reader,
+// The numbers of a reader whose packet was refused.
+fn none() -> Reader
+    ensures { result ≡ no_reader }
+{
+    Reader {
+        storage: 0,
+        offs: 0,
+        ends: 0,
+        window: 0,
+        waiting: 0,
+        total: 0,
+        rng: 0,
+        val: 0,
+        ext: 0,
+        rem: 0,
+        error: true,
+    }
 }
 
 // A reader of a packet, section 4.1.1. Refused as 1: more than 1,275 bytes.
 pub fn ec_dec_init<'a>(buf: &'a [u8]) -> Opened<'a>
-    ensures { result ≡ opened_of buf.entry }
+    ensures { said_opening result ≡ opened_of buf.entry }
 {
-    let out = moves::begin(buf);
-    let dec = EcDec { buf, num: out.num };
-    Opened {
-        dec,
-        code: out.code,
+    match Reader::new(buf) {
+        Ok(num) => Opened {
+            dec: EcDec { buf, num },
+            answer: Ok(()),
+        },
+        Err(why) => Opened {
+            dec: EcDec { buf, num: none() },
+            answer: Err(why),
+        },
     }
 }
 
 // One bit that is 1 with a probability of 1 in 2^logp, section 4.1.3.2.
-pub fn ec_dec_bit_logp<'s, 'a>(d: &'s mut EcDec<'a>, logp: u32) -> Symbol
-    ensures { (said_symbol result ≡ (read_held (bit logp) d.old).said)
+pub fn ec_dec_bit_logp<'s, 'a>(d: &'s mut EcDec<'a>, logp: u32) -> Result<u32, Refusal>
+    ensures { (said result ≡ (read_held (bit logp) d.old).said)
         × (d.new ≡ moved d.old (read_held (bit logp) d.old).next) }
 {
-    let out = moves::bit_logp(d.num, d.buf, logp);
-    d.num = out.next;
-    out.answer
+    let y = d.num.bit_logp(d.buf, logp)?;
+    d.num = y.next;
+    Ok(y.value)
 }
 
 // A number below ft, all alike, section 4.1.5.
-pub fn ec_dec_uint<'s, 'a>(d: &'s mut EcDec<'a>, ft: u32) -> Symbol
-    ensures { (said_symbol result ≡ (read_held (uint ft) d.old).said)
+pub fn ec_dec_uint<'s, 'a>(d: &'s mut EcDec<'a>, ft: u32) -> Result<u32, Refusal>
+    ensures { (said result ≡ (read_held (uint ft) d.old).said)
         × (d.new ≡ moved d.old (read_held (uint ft) d.old).next) }
 {
-    let out = moves::uint(d.num, d.buf, ft);
-    d.num = out.next;
-    out.answer
+    let y = d.num.uint(d.buf, ft)?;
+    d.num = y.next;
+    Ok(y.value)
 }
 
 // A symbol of a table of 2^ftb places, section 4.1.3.3.
-pub fn ec_dec_icdf<'s, 'a, 't>(d: &'s mut EcDec<'a>, t: &'t [u8], ftb: u32) -> Symbol
-    ensures { (said_symbol result ≡ (read_held (table t.now ftb) d.old).said)
+pub fn ec_dec_icdf<'s, 'a, 't>(d: &'s mut EcDec<'a>, t: &'t [u8], ftb: u32) -> Result<u32, Refusal>
+    ensures { (said result ≡ (read_held (table t.now ftb) d.old).said)
         × (d.new ≡ moved d.old (read_held (table t.now ftb) d.old).next) }
 {
-    let out = moves::icdf(d.num, d.buf, t, ftb);
-    d.num = out.next;
-    out.answer
+    let y = d.num.icdf(d.buf, t, ftb)?;
+    d.num = y.next;
+    Ok(y.value)
 }
 
 // n raw bits from the end of the packet, section 4.1.4.
-pub fn ec_dec_bits<'s, 'a>(d: &'s mut EcDec<'a>, n: u32) -> Symbol
-    ensures { (said_symbol result ≡ (read_held (raw n) d.old).said)
+pub fn ec_dec_bits<'s, 'a>(d: &'s mut EcDec<'a>, n: u32) -> Result<u32, Refusal>
+    ensures { (said result ≡ (read_held (raw n) d.old).said)
         × (d.new ≡ moved d.old (read_held (raw n) d.old).next) }
 {
-    let out = moves::bits(d.num, d.buf, n);
-    d.num = out.next;
-    out.answer
+    let y = d.num.bits(d.buf, n)?;
+    d.num = y.next;
+    Ok(y.value)
 }
 
 // A Laplace value of the pair fs and decay, section 4.3.2.1.
-pub fn ec_laplace_decode<'s, 'a>(d: &'s mut EcDec<'a>, fs: u32, decay: u32) -> Value
-    ensures { (said_value result ≡ (lap_held fs decay d.old).said)
+pub fn ec_laplace_decode<'s, 'a>(d: &'s mut EcDec<'a>, fs: u32, decay: u32) -> Result<i32, Refusal>
+    ensures { (said result ≡ (lap_held fs decay d.old).said)
         × (d.new ≡ moved d.old (lap_held fs decay d.old).next) }
 {
-    let out = moves::laplace(d.num, d.buf, fs, decay);
-    d.num = out.next;
-    out.answer
+    let y = laplace::ec_laplace_decode(d.num, d.buf, fs, decay)?;
+    d.num = y.next;
+    Ok(y.value)
 }
 
 // The bit allocation, section 4.3.3: pulses, fine bits and priorities go into the lists.
@@ -183,17 +141,24 @@ pub fn clt_compute_allocation<'s, 'a, 'o, 'c, 'p, 'f, 'r>(
     pulses: &'p mut [i32],
     fine: &'f mut [i32],
     priorities: &'r mut [i32],
-) -> Allocated
-    ensures { (said_allocated result ≡ (alloc_held q offsets.now caps.now
+) -> Result<Allocation, Refusal>
+    ensures { (said result ≡ (alloc_held q offsets.now caps.now
         (lists pulses.old fine.old priorities.old) d.old).step.said)
         × (d.new ≡ moved d.old (alloc_held q offsets.now caps.now
         (lists pulses.old fine.old priorities.old) d.old).step.next)
         × (lists pulses.new fine.new priorities.new ≡ (alloc_held q offsets.now
         caps.now (lists pulses.old fine.old priorities.old) d.old).lent) }
 {
-    let out = moves::allocation(d.num, d.buf, q, offsets, caps, pulses, fine, priorities);
-    d.num = out.next;
-    out.answer
+    let y = rate::clt_compute_allocation_read(
+        d.num, d.buf, q, offsets, caps, pulses, fine, priorities,
+    )?;
+    d.num = y.next;
+    Ok(Allocation {
+        coded: y.coded,
+        balance: y.balance,
+        intensity: y.intensity,
+        dual: y.dual,
+    })
 }
 
 // The coarse energies of the bands start..end-1, section 4.3.2.1, in place.
@@ -205,12 +170,11 @@ pub fn unquant_coarse_energy<'s, 'a, 'e>(
     start: i32,
     end: i32,
     intra: i32,
-) -> Energies
-    ensures { (said_energies result ≡ (coarse_held c lm start end intra energies.old d.old).step.said)
+) -> Result<(), Refusal>
+    ensures { (said result ≡ (coarse_held c lm start end intra energies.old d.old).step.said)
         × (d.new ≡ moved d.old (coarse_held c lm start end intra energies.old d.old).step.next)
         × (energies.new ≡ (coarse_held c lm start end intra energies.old d.old).lent) }
 {
-    let out = moves::coarse(d.num, d.buf, energies, c, lm, start, end, intra);
-    d.num = out.next;
-    out.answer
+    d.num = quant_bands::unquant_coarse_energy(d.num, d.buf, energies, c, lm, start, end, intra)?;
+    Ok(())
 }

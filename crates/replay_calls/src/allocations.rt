@@ -1,37 +1,36 @@
 // Whole allocations as public calls: from place 28 on stand the offsets, the caps and the bytes.
-use rate::{AllocNumbers, AllocRead, AllocWrote, Wishes};
+use entcode::Refusal;
+use rate::{AllocNumbers, ReadAllocation, Wishes, WrittenAllocation};
 use replay_io::list::{at, bytes_of, length_at, part};
 use replay_io::reply;
-use replay_io::say::{hex, list, numbers, text};
+use replay_io::say::{hex, list, text};
 use std::io::Stdout;
 
-// What was read beside the lists.
-fn say_read(stdout: Stdout, answer: AllocRead) {
+// What was read beside the lists. A reader has other numbers to print than a writer, below.
+fn say_read(stdout: Stdout, answer: Result<ReadAllocation, Refusal>) {
     match answer {
-        AllocRead::Done(y) => {
-            let next = y.next;
+        Ok(y) => {
             text(stdout, b"R");
-            reply::reader(stdout, next);
+            reply::reader(stdout, y.next);
             list(stdout, b" |", &[y.coded, y.balance, y.intensity, y.dual]);
         }
-        AllocRead::Refused(no) => numbers(stdout, b"X", &[no]),
+        Err(why) => reply::refusal(stdout, why),
     }
 }
 
 // What was written beside lists and bytes.
-fn say_written(stdout: Stdout, answer: AllocWrote) {
+fn say_written(stdout: Stdout, answer: Result<WrittenAllocation, Refusal>) {
     match answer {
-        AllocWrote::Done(y) => {
-            let next = y.next;
+        Ok(y) => {
             text(stdout, b"W");
-            reply::writer(stdout, next);
+            reply::writer(stdout, y.next);
             list(stdout, b" |", &[y.coded, y.balance, y.intensity, y.dual]);
         }
-        AllocWrote::Refused(no) => numbers(stdout, b"X", &[no]),
+        Err(why) => reply::refusal(stdout, why),
     }
 }
 
-// The allocation's numbers.
+// The allocation's numbers. Each program has them at other places of its requests, and makes the struct by its fields.
 fn asked(l: &[i32]) -> AllocNumbers {
     AllocNumbers {
         c: at(l, 12),

@@ -1,14 +1,15 @@
 // Coarse energies and last bits as public calls: from place 21 on stand the energies, the fine bits, the priorities and the bytes.
-use quant_bands::EnergyRead;
+use entcode::Refusal;
+use entdec::Reader;
 use replay_io::floats::floats_of;
 use replay_io::list::{at, bytes_of, length_at, part};
 use replay_io::reply;
-use replay_io::say::{floats, numbers, text};
+use replay_io::say::{floats, text};
 use replay_io::state::reader_of;
 use std::io::Stdout;
 
 // E: coarse energies are decoded.
-fn coarse(l: &[i32], s: &[u8], energies: &mut [f32]) -> EnergyRead {
+fn coarse(l: &[i32], s: &[u8], energies: &mut [f32]) -> Result<Reader, Refusal> {
     quant_bands::unquant_coarse_energy(
         reader_of(l),
         s,
@@ -28,7 +29,7 @@ fn finalise(
     priorities: &[i32],
     s: &[u8],
     energies: &mut [f32],
-) -> EnergyRead {
+) -> Result<Reader, Refusal> {
     quant_bands::unquant_energy_finalise(
         reader_of(l),
         s,
@@ -43,7 +44,7 @@ fn finalise(
 }
 
 // The call that a request's letter names.
-fn call(letter: u8, l: &[i32], s: &[u8], energies: &mut [f32]) -> EnergyRead {
+fn call(letter: u8, l: &[i32], s: &[u8], energies: &mut [f32]) -> Result<Reader, Refusal> {
     if letter == b'E' {
         return coarse(l, s, energies);
     }
@@ -54,13 +55,13 @@ fn call(letter: u8, l: &[i32], s: &[u8], energies: &mut [f32]) -> EnergyRead {
 }
 
 // What a call says beside the energies.
-fn say_answer(stdout: Stdout, letter: u8, answer: EnergyRead) {
+fn say_answer(stdout: Stdout, letter: u8, answer: Result<Reader, Refusal>) {
     match answer {
-        EnergyRead::Done(next) => {
+        Ok(next) => {
             text(stdout, &[letter]);
             reply::reader(stdout, next);
         }
-        EnergyRead::Refused(no) => numbers(stdout, b"X", &[no]),
+        Err(why) => reply::refusal(stdout, why),
     }
 }
 

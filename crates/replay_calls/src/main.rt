@@ -8,9 +8,9 @@ mod lookups;
 mod shapes;
 
 use replay_io::{input, list, reply};
-use std::io::{Stdin, Stdout};
+use std::io::Stdout;
 
-// A request by its letter and its numbers.
+// A request by its letter and its numbers. A match, as in the other programs: each letter names a call with parameters of its own.
 fn ask(stdout: Stdout, letter: u8, l: &[i32]) {
     match letter {
         b'R' | b'W' => allocations::ask(stdout, letter, l),
@@ -21,33 +21,23 @@ fn ask(stdout: Stdout, letter: u8, l: &[i32]) {
     }
 }
 
-// Answers the line in the first n bytes of its buffer.
-fn step(stdout: Stdout, line: &[u8], n: usize) {
+// Answers a line.
+fn step(stdout: Stdout, request: &[u8]) {
     let mut l = [0i32; 1384];
-    let request = input::first(line, n);
-    let count = list::read(request, 1, &mut l);
-    if 1384 < count {
-        return reply::malformed(stdout);
-    }
-    ask(stdout, input::byte(request, 0), &l)
-}
-
-// Answers each line of the input.
-fn run(stdin: Stdin, stdout: Stdout, block: &mut [u8], line: &mut [u8]) {
-    let mut t = input::begin();
-    let mut lines: u32 = 4294967295;
-    while 0 < lines {
-        t = input::next(stdin, block, line, t);
-        if !t.whole {
-            return;
-        }
-        step(stdout, line, t.length);
-        lines -= 1;
+    match list::read(request, 1, &mut l) {
+        Some(_) => ask(stdout, input::byte(request, 0), &l),
+        None => reply::malformed(stdout),
     }
 }
 
 fn main(rt: HostRuntime) {
     let mut block = [0u8; 65536];
     let mut line = [0u8; 8192];
-    run(rt.stdin(), rt.stdout(), &mut block, &mut line);
+    let stdout = rt.stdout();
+    input::each(
+        rt.stdin(),
+        &mut block,
+        &mut line,
+        |request| step(stdout, request),
+    );
 }

@@ -1,20 +1,20 @@
 // Shapes as public calls: from place 18 on stand the bytes.
+use entcode::Refusal;
 use replay_io::floats::float_of;
 use replay_io::list::{at, bytes_of, length_at, part, word};
 use replay_io::reply;
 use replay_io::say::{floats, numbers, text};
 use std::io::Stdout;
-use vq::Shaped;
+use vq::ReadShape;
 
 // What the call says beside the shape.
-fn say_answer(stdout: Stdout, answer: Shaped) {
+fn say_answer(stdout: Stdout, answer: Result<ReadShape, Refusal>) {
     match answer {
-        Shaped::Done(r) => {
-            let next = r.next;
+        Ok(r) => {
             numbers(stdout, b"U", &[r.mask]);
-            reply::reader(stdout, next);
+            reply::reader(stdout, r.next);
         }
-        Shaped::Refused(no) => numbers(stdout, b"X", &[no]),
+        Err(why) => reply::refusal(stdout, why),
     }
 }
 

@@ -11,7 +11,7 @@ use entdec::Reader;
 use entenc::Writer;
 use replay_io::list::word;
 use replay_io::{input, list, reply};
-use std::io::{Stdin, Stdout};
+use std::io::Stdout;
 
 // Who works on the bytes.
 #[derive(Clone, Copy)]
@@ -70,15 +70,9 @@ impl State {
     }
 
     // A coder that a request left.
-    fn with_coder(self, coder: Coder) -> State {
-        State {
-            lent: self.lent,
-            symbols: self.symbols,
-            ftb: self.ftb,
-            fs: self.fs,
-            decay: self.decay,
-            coder,
-        }
+    fn with_coder(mut self, coder: Coder) -> State {
+        self.coder = coder;
+        self
     }
 }
 
@@ -139,7 +133,7 @@ fn call(
     }
 }
 
-// A request over the bytes that are lent and the table's symbols.
+// A request over the bytes that are lent and the table's symbols. A match on the letter, here and below: each call has parameters of its own.
 fn act(
     stdout: Stdout,
     letter: u8,
@@ -204,72 +198,44 @@ fn ask(
     }
 }
 
-// Answers the line in the first n bytes of its buffer.
+// Answers a line; the state after it.
 fn step(
     stdout: Stdout,
-    line: &[u8],
-    n: usize,
+    request: &[u8],
     bytes: &mut [u8],
     table: &mut [u8],
     places: &mut [i32],
     state: State,
 ) -> State {
     let mut l = [0i32; 257];
-    let request = input::first(line, n);
-    let count = list::read(request, 1, &mut l);
-    if 257 < count {
-        reply::malformed(stdout);
-        return state;
-    }
-    ask(
-        stdout,
-        input::byte(request, 0),
-        &l,
-        count,
-        bytes,
-        table,
-        places,
-        state,
-    )
-}
-
-// Answers each line of the input.
-fn run(
-    stdin: Stdin,
-    stdout: Stdout,
-    block: &mut [u8],
-    line: &mut [u8],
-    bytes: &mut [u8],
-    table: &mut [u8],
-    places: &mut [i32],
-) {
-    let mut state = fresh();
-    let mut t = input::begin();
-    let mut lines: u32 = 4294967295;
-    while 0 < lines {
-        t = input::next(stdin, block, line, t);
-        if !t.whole {
-            return;
+    match list::read(request, 1, &mut l) {
+        Some(count) => ask(
+            stdout,
+            input::byte(request, 0),
+            &l,
+            count,
+            bytes,
+            table,
+            places,
+            state,
+        ),
+        None => {
+            reply::malformed(stdout);
+            state
         }
-        state = step(stdout, line, t.length, bytes, table, places, state);
-        lines -= 1;
     }
 }
 
-// The buffers, and the run over them.
+// The buffers, and the state that goes from line to line.
 fn main(rt: HostRuntime) {
     let mut block = [0u8; 65536];
     let mut line = [0u8; 1200];
     let mut bytes = [0u8; 1300];
     let mut table = [0u8; 256];
     let mut places = [0i32; 176];
-    run(
-        rt.stdin(),
-        rt.stdout(),
-        &mut block,
-        &mut line,
-        &mut bytes,
-        &mut table,
-        &mut places,
-    );
+    let mut state = fresh();
+    let stdout = rt.stdout();
+    input::each(rt.stdin(), &mut block, &mut line, |request| {
+        state = step(stdout, request, &mut bytes, &mut table, &mut places, state);
+    });
 }

@@ -1,21 +1,29 @@
 // Symbols and the close, as public calls of the reader and the writer.
 use crate::Coder;
 use crate::begin::wrote;
-use entdec::Reader;
+use entcode::Refusal;
+use entdec::{ReadSymbol, Reader};
 use entenc::Writer;
 use replay_io::list::word;
 use replay_io::reply;
 use std::io::Stdout;
 
-// A write or the close. A letter that is none of them is refused with 0.
-fn put(letter: u8, l: &[i32], s: &mut [u8], t: &[u8], ftb: u32, w: Writer) -> entenc::WriteAnswer {
+// What a write or the close answers; none for a letter that is none of them.
+fn put(
+    letter: u8,
+    l: &[i32],
+    s: &mut [u8],
+    t: &[u8],
+    ftb: u32,
+    w: Writer,
+) -> Option<Result<Writer, Refusal>> {
     match letter {
-        b'B' => w.bit_logp(s, word(l, 0), word(l, 1)),
-        b'I' => w.icdf(s, word(l, 0), t, ftb),
-        b'U' => w.uint(s, word(l, 0), word(l, 1)),
-        b'R' => w.bits(s, word(l, 0), word(l, 1)),
-        b'C' => w.close(s),
-        _ => entenc::WriteAnswer::Refused(0),
+        b'B' => Some(w.bit_logp(s, word(l, 0), word(l, 1))),
+        b'I' => Some(w.icdf(s, word(l, 0), t, ftb)),
+        b'U' => Some(w.uint(s, word(l, 0), word(l, 1))),
+        b'R' => Some(w.bits(s, word(l, 0), word(l, 1))),
+        b'C' => Some(w.close(s)),
+        _ => None,
     }
 }
 
@@ -29,18 +37,30 @@ pub fn write(
     ftb: u32,
     w: Writer,
 ) -> Coder {
-    let a = put(letter, l, s, t, ftb, w);
-    wrote(stdout, letter, a, s, Coder::Writing(w))
+    match put(letter, l, s, t, ftb, w) {
+        Some(a) => wrote(stdout, letter, a, s, Coder::Writing(w)),
+        None => {
+            reply::unknown(stdout);
+            Coder::Writing(w)
+        }
+    }
 }
 
-// A read. A letter that is none is refused with 0.
-fn get(letter: u8, l: &[i32], s: &[u8], t: &[u8], ftb: u32, r: Reader) -> entdec::ReadAnswer {
+// What a read answers; none for a letter that is none.
+fn get(
+    letter: u8,
+    l: &[i32],
+    s: &[u8],
+    t: &[u8],
+    ftb: u32,
+    r: Reader,
+) -> Option<Result<ReadSymbol, Refusal>> {
     match letter {
-        b'b' => r.bit_logp(s, word(l, 0)),
-        b'i' => r.icdf(s, t, ftb),
-        b'u' => r.uint(s, word(l, 0)),
-        b'r' => r.bits(s, word(l, 0)),
-        _ => entdec::ReadAnswer::Refused(0),
+        b'b' => Some(r.bit_logp(s, word(l, 0))),
+        b'i' => Some(r.icdf(s, t, ftb)),
+        b'u' => Some(r.uint(s, word(l, 0))),
+        b'r' => Some(r.bits(s, word(l, 0))),
+        _ => None,
     }
 }
 
@@ -54,16 +74,13 @@ pub fn read(
     ftb: u32,
     r: Reader,
 ) -> Coder {
-    let a = get(letter, l, s, t, ftb, r);
-    match a {
-        entdec::ReadAnswer::Done(g) => {
-            let next = g.next;
-            reply::read(stdout, letter, g.value, next);
-            Coder::Reading(next)
+    match get(letter, l, s, t, ftb, r) {
+        Some(Ok(g)) => {
+            reply::read(stdout, letter, g.value, g.next);
+            return Coder::Reading(g.next);
         }
-        entdec::ReadAnswer::Refused(no) => {
-            reply::refused(stdout, no);
-            Coder::Reading(r)
-        }
+        Some(Err(why)) => reply::refused(stdout, why),
+        None => reply::unknown(stdout),
     }
+    Coder::Reading(r)
 }

@@ -2,7 +2,6 @@
 use crate::Coder;
 use entdec::Reader;
 use entenc::Writer;
-use laplace::{LapRead, LapWrote};
 use replay_io::reply;
 use replay_io::say::{list, text};
 use std::io::Stdout;
@@ -17,15 +16,13 @@ fn say_written(stdout: Stdout, value: i32, next: Writer, s: &[u8]) {
 
 // L: a value of the pair.
 pub fn put(stdout: Stdout, value: i32, s: &mut [u8], fs: u32, decay: u32, w: Writer) -> Coder {
-    let answer = laplace::ec_laplace_encode(w, s, value, fs, decay);
-    match answer {
-        LapWrote::Done(done) => {
-            let next = done.next;
-            say_written(stdout, done.value, next, s);
-            Coder::Writing(next)
+    match laplace::ec_laplace_encode(w, s, value, fs, decay) {
+        Ok(done) => {
+            say_written(stdout, done.value, done.next, s);
+            Coder::Writing(done.next)
         }
-        LapWrote::Refused(no) => {
-            reply::refused(stdout, no);
+        Err(why) => {
+            reply::refused(stdout, why);
             Coder::Writing(w)
         }
     }
@@ -40,15 +37,13 @@ fn say_read(stdout: Stdout, value: i32, next: Reader) {
 
 // l: a value of the pair.
 pub fn get(stdout: Stdout, s: &[u8], fs: u32, decay: u32, r: Reader) -> Coder {
-    let answer = laplace::ec_laplace_decode(r, s, fs, decay);
-    match answer {
-        LapRead::Done(got) => {
-            let next = got.next;
-            say_read(stdout, got.value, next);
-            Coder::Reading(next)
+    match laplace::ec_laplace_decode(r, s, fs, decay) {
+        Ok(got) => {
+            say_read(stdout, got.value, got.next);
+            Coder::Reading(got.next)
         }
-        LapRead::Refused(no) => {
-            reply::refused(stdout, no);
+        Err(why) => {
+            reply::refused(stdout, why);
             Coder::Reading(r)
         }
     }

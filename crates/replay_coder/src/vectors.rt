@@ -1,26 +1,16 @@
 // Pulse words as public calls.
 use crate::Coder;
-use cwrs::Decoded;
 use entdec::Reader;
-use entenc::{WriteAnswer, Writer};
+use entenc::Writer;
 use replay_io::list::{at, word};
 use replay_io::reply;
 use replay_io::say::{list, numbers, text};
 use std::io::Stdout;
 
-// Every place becomes 0.
-fn clear(places: &mut [i32]) {
-    let mut i = 0;
-    while i < places.len() {
-        places[i] = 0;
-        i += 1;
-    }
-}
-
 // Z: every place becomes 0. A: one becomes a number.
 pub fn lay(letter: u8, l: &[i32], places: &mut [i32]) {
     if letter == b'Z' {
-        clear(places);
+        places.fill(0);
         return;
     }
     let i = word(l, 0) as usize;
@@ -31,15 +21,14 @@ pub fn lay(letter: u8, l: &[i32], places: &mut [i32]) {
 
 // W: the vector in the first places. Of the state total, rng and val are said.
 pub fn put(stdout: Stdout, l: &[i32], s: &mut [u8], places: &[i32], w: Writer) -> Coder {
-    let answer = cwrs::encode_pulses(w, s, places, word(l, 0), word(l, 1));
-    match answer {
-        WriteAnswer::Done(next) => {
+    match cwrs::encode_pulses(w, s, places, word(l, 0), word(l, 1)) {
+        Ok(next) => {
             numbers(stdout, b"W", &[next.total, next.rng, next.val]);
             text(stdout, b"\n");
             Coder::Writing(next)
         }
-        WriteAnswer::Refused(no) => {
-            reply::refused(stdout, no);
+        Err(why) => {
+            reply::refused(stdout, why);
             Coder::Writing(w)
         }
     }
@@ -58,10 +47,8 @@ fn say_place(stdout: Stdout, at: usize, value: i32) {
 
 // All places that are not 0.
 fn say_places(stdout: Stdout, places: &[i32]) {
-    let mut i = 0;
-    while i < places.len() {
-        say_place(stdout, i, places[i]);
-        i += 1;
+    for (i, &value) in places.iter().enumerate() {
+        say_place(stdout, i, value);
     }
 }
 
@@ -72,7 +59,7 @@ fn say_found(stdout: Stdout, energy: u32, next: Reader, places: &[i32]) {
         b"w",
         &[
             energy,
-            reply::mark(next.error),
+            u32::from(next.error),
             next.total,
             next.rng,
             next.val,
@@ -84,15 +71,13 @@ fn say_found(stdout: Stdout, energy: u32, next: Reader, places: &[i32]) {
 
 // w: a vector, into the first places.
 pub fn get(stdout: Stdout, l: &[i32], s: &[u8], places: &mut [i32], r: Reader) -> Coder {
-    let answer = cwrs::decode_pulses(r, s, places, word(l, 0), word(l, 1));
-    match answer {
-        Decoded::Done(f) => {
-            let next = f.next;
-            say_found(stdout, f.energy, next, places);
-            Coder::Reading(next)
+    match cwrs::decode_pulses(r, s, places, word(l, 0), word(l, 1)) {
+        Ok(f) => {
+            say_found(stdout, f.energy, f.next, places);
+            Coder::Reading(f.next)
         }
-        Decoded::Refused(no) => {
-            reply::refused(stdout, no);
+        Err(why) => {
+            reply::refused(stdout, why);
             Coder::Reading(r)
         }
     }

@@ -1,34 +1,32 @@
 // Allocations.
 use crate::reader;
-use rate::{AllocNumbers, AllocRead};
-use reader_held::{AllocStep, Allocated};
+use entcode::Refusal;
+use rate::{AllocNumbers, ReadAllocation};
+use reader_held::{Allocation, Step};
 use replay_io::list::{at, part};
 use replay_io::reply;
-use replay_io::say::{list, numbers, text};
+use replay_io::say::{list, text};
 use std::io::Stdout;
 
 // What the call by value answered.
-fn by_value(stdout: Stdout, a: AllocRead) {
+fn by_value(stdout: Stdout, a: Result<ReadAllocation, Refusal>) {
     match a {
-        AllocRead::Done(y) => {
-            let next = y.next;
+        Ok(y) => {
             list(stdout, b"A", &[y.coded, y.balance, y.intensity, y.dual]);
-            reply::reader(stdout, next);
+            reply::reader(stdout, y.next);
         }
-        AllocRead::Refused(no) => numbers(stdout, b"X", &[no]),
+        Err(why) => reply::refusal(stdout, why),
     }
 }
 
 // What the held reader answered.
-fn by_held(stdout: Stdout, y: AllocStep) {
-    let answer = y.answer;
-    let next = y.next;
-    match answer {
-        Allocated::Done(a) => {
+fn by_held(stdout: Stdout, y: Step<Allocation>) {
+    match y.answer {
+        Ok(a) => {
             list(stdout, b"A", &[a.coded, a.balance, a.intensity, a.dual]);
-            reply::reader(stdout, next);
+            reply::reader(stdout, y.next);
         }
-        Allocated::Refused(no) => numbers(stdout, b"X", &[no]),
+        Err(why) => reply::refusal(stdout, why),
     }
 }
 
@@ -40,7 +38,7 @@ fn lists(stdout: Stdout, pulses: &[i32], fine: &[i32], priorities: &[i32]) {
     text(stdout, b"\n");
 }
 
-// The allocation's numbers.
+// The allocation's numbers, at the places that this program's requests have them.
 fn asked(l: &[i32]) -> AllocNumbers {
     AllocNumbers {
         c: at(l, 0),

@@ -1,16 +1,15 @@
 // Coarse energies.
 use crate::reader;
+use entcode::Refusal;
 use entdec::Reader;
-use quant_bands::EnergyRead;
-use reader_held::{Energies, EnergiesStep};
 use replay_io::floats::floats_of;
 use replay_io::list::{at, part};
 use replay_io::reply;
 use replay_io::say::{floats, numbers, text};
 use std::io::Stdout;
 
-// A letter, a number, which is 0 or a refusal's, and the reader after it.
-pub fn say_energies(stdout: Stdout, letter: u8, code: u32, next: Reader) {
+// A letter, the number that is printed, which is 0 or a refusal's, and the reader after it.
+fn say_energies(stdout: Stdout, letter: u8, code: u32, next: Reader) {
     numbers(stdout, &[letter], &[code]);
     reply::reader(stdout, next);
 }
@@ -22,21 +21,11 @@ pub fn ended(stdout: Stdout, x: &[f32]) {
     text(stdout, b"\n");
 }
 
-// What the call by value answered to d.
-fn by_value(stdout: Stdout, d: Reader, a: EnergyRead) {
+// What a call by value answered to d.
+pub fn say_next(stdout: Stdout, letter: u8, d: Reader, a: Result<Reader, Refusal>) {
     match a {
-        EnergyRead::Done(next) => say_energies(stdout, b'E', 0, next),
-        EnergyRead::Refused(no) => say_energies(stdout, b'E', no, d),
-    }
-}
-
-// What the held reader answered.
-fn by_held(stdout: Stdout, y: EnergiesStep) {
-    let answer = y.answer;
-    let next = y.next;
-    match answer {
-        Energies::Done => say_energies(stdout, b'E', 0, next),
-        Energies::Refused(no) => say_energies(stdout, b'E', no, next),
+        Ok(next) => say_energies(stdout, letter, 0, next),
+        Err(why) => say_energies(stdout, letter, u32::from(why), d),
     }
 }
 
@@ -55,7 +44,7 @@ fn read(stdout: Stdout, l: &[i32], s: &[u8]) {
         at(l, 3),
         at(l, 4),
     );
-    by_value(stdout, d, a);
+    say_next(stdout, b'E', d, a);
     ended(stdout, &x);
 }
 
@@ -73,7 +62,7 @@ fn read_held(stdout: Stdout, l: &[i32], s: &[u8]) {
         at(l, 3),
         at(l, 4),
     );
-    by_held(stdout, y);
+    say_next(stdout, b'E', y.next, y.answer.map(|_| y.next));
     ended(stdout, &x);
 }
 

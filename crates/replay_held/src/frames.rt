@@ -1,13 +1,13 @@
 // Frames on a record.
-use crate::energies::{ended, say_energies};
+use crate::energies::{ended, say_next};
 use crate::reader;
-use entdec::Reader;
+use entcode::Refusal;
 use replay_io::floats::floats_of;
 use replay_io::list::{at, part, word};
 use replay_io::say::numbers;
 use std::io::Stdout;
-use stream::{Framed, Record};
-use stream_lent::{Applied, AppliedStep};
+use stream::{Applied, Record};
+use stream_lent::AppliedStep;
 
 // The record of a request: its next number, and the energies that are listed.
 fn record(l: &[i32]) -> Record {
@@ -15,7 +15,7 @@ fn record(l: &[i32]) -> Record {
     floats_of(part(l, 20, 42), &mut energies);
     Record {
         energies,
-        next: word(l, 6) as u64,
+        next: u64::from(word(l, 6)),
     }
 }
 
@@ -26,36 +26,32 @@ fn recorded(stdout: Stdout, r: Record) {
     ended(stdout, &x);
 }
 
-// What the frame by value gave.
-fn framed(stdout: Stdout, y: Framed) {
-    let next = y.next;
-    let rec = y.rec;
-    say_energies(stdout, b'F', y.code, next);
-    recorded(stdout, rec);
-}
-
-// What the frame on a lent record answered to d.
-fn answered(stdout: Stdout, d: Reader, a: Applied) {
+// What the frame by value answered, of the record and the reader of a request; a refusal leaves both.
+fn framed(stdout: Stdout, l: &[i32], a: Result<Applied, Refusal>) {
     match a {
-        Applied::Done(next) => say_energies(stdout, b'F', 0, next),
-        Applied::Refused(no) => say_energies(stdout, b'F', no, d),
+        Ok(y) => {
+            say_next(stdout, b'F', y.next, Ok(y.next));
+            recorded(stdout, y.rec);
+        }
+        Err(why) => {
+            say_next(stdout, b'F', reader(l), Err(why));
+            recorded(stdout, record(l));
+        }
     }
 }
 
-// That, and the record then.
-fn applied(stdout: Stdout, d: Reader, y: AppliedStep) {
-    let answer = y.answer;
-    let rec = y.rec;
-    answered(stdout, d, answer);
-    recorded(stdout, rec);
+// What the frame on a lent record answered, and the record then.
+fn applied(stdout: Stdout, l: &[i32], y: AppliedStep) {
+    say_next(stdout, b'F', reader(l), y.answer);
+    recorded(stdout, y.rec);
 }
 
 // By value.
-fn apply(l: &[i32], s: &[u8]) -> Framed {
+fn apply(l: &[i32], s: &[u8]) -> Result<Applied, Refusal> {
     record(l).frame(
         reader(l),
         s,
-        word(l, 5) as u64,
+        u64::from(word(l, 5)),
         at(l, 0),
         at(l, 1),
         at(l, 2),
@@ -70,7 +66,7 @@ fn apply_lent(l: &[i32], s: &[u8]) -> AppliedStep {
         record(l),
         reader(l),
         s,
-        word(l, 5) as u64,
+        u64::from(word(l, 5)),
         at(l, 0),
         at(l, 1),
         at(l, 2),
@@ -81,6 +77,6 @@ fn apply_lent(l: &[i32], s: &[u8]) -> AppliedStep {
 
 // F: a frame on a record.
 pub fn ask(stdout: Stdout, l: &[i32], s: &[u8]) {
-    framed(stdout, apply(l, s));
-    applied(stdout, reader(l), apply_lent(l, s));
+    framed(stdout, l, apply(l, s));
+    applied(stdout, l, apply_lent(l, s));
 }

@@ -1,6 +1,7 @@
 // Recorded calls answered twice, by the calls by value and by the reader that holds its packet or the record that is lent: one request a line,
 // and two lines for each, which must be alike. tools/compare --record held makes the requests and the answers, and says their form. The numbers of a
 // request stand in a list l: its own at places 0 to 7, the reader at 8 to 18, the packet's length at 19, a list at 20 to 61, and the packet.
+// Each call stands twice, by value and held: both are public calls, and a closure for either would have all its parameters.
 #![tactic(auto)]
 
 mod allocations;
@@ -9,16 +10,26 @@ mod frames;
 mod symbols;
 mod values;
 
+use entcode::{Coded, Refusal};
 use entdec::Reader;
+use reader_held::Step;
 use replay_io::{input, list, reply};
-use std::io::{Stdin, Stdout};
+use std::io::Stdout;
 
 // The reader of a request.
 pub fn reader(l: &[i32]) -> Reader {
     replay_io::state::reader_of(list::part(l, 8, 11))
 }
 
-// The call that a request's letter names, by value and then held.
+// What a held reader answered, in the form of the call by value.
+pub fn valued<T>(y: Step<T>) -> Result<Coded<T, Reader>, Refusal> {
+    y.answer.map(|value| Coded {
+        value,
+        next: y.next,
+    })
+}
+
+// The call that a request's letter names, by value and then held: a match, since each has parameters of its own.
 fn call(stdout: Stdout, letter: u8, l: &[i32], s: &[u8]) {
     match letter {
         b'A' => allocations::ask(stdout, l, s),
@@ -44,33 +55,23 @@ fn ask(stdout: Stdout, letter: u8, l: &[i32]) {
     over(stdout, letter, l, &mut s[..k]);
 }
 
-// Answers the line in the first n bytes of its buffer.
-fn step(stdout: Stdout, line: &[u8], n: usize) {
+// Answers a line.
+fn step(stdout: Stdout, request: &[u8]) {
     let mut l = [0i32; 1338];
-    let request = input::first(line, n);
-    let count = list::read(request, 1, &mut l);
-    if 1338 < count {
-        return reply::malformed(stdout);
-    }
-    ask(stdout, input::byte(request, 0), &l)
-}
-
-// Answers each line of the input.
-fn run(stdin: Stdin, stdout: Stdout, block: &mut [u8], line: &mut [u8]) {
-    let mut t = input::begin();
-    let mut lines: u32 = 4294967295;
-    while 0 < lines {
-        t = input::next(stdin, block, line, t);
-        if !t.whole {
-            return;
-        }
-        step(stdout, line, t.length);
-        lines -= 1;
+    match list::read(request, 1, &mut l) {
+        Some(_) => ask(stdout, input::byte(request, 0), &l),
+        None => reply::malformed(stdout),
     }
 }
 
 fn main(rt: HostRuntime) {
     let mut block = [0u8; 65536];
     let mut line = [0u8; 16384];
-    run(rt.stdin(), rt.stdout(), &mut block, &mut line);
+    let stdout = rt.stdout();
+    input::each(
+        rt.stdin(),
+        &mut block,
+        &mut line,
+        |request| step(stdout, request),
+    );
 }

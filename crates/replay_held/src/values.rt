@@ -1,8 +1,8 @@
 // Laplace values.
-use crate::reader;
+use crate::{reader, valued};
+use entcode::Refusal;
 use entdec::Reader;
-use laplace::LapRead;
-use reader_held::{Value, ValueStep};
+use laplace::LapSym;
 use replay_io::list::word;
 use replay_io::reply;
 use replay_io::say::{list, text};
@@ -15,24 +15,11 @@ fn line(stdout: Stdout, value: i32, next: Reader) {
     text(stdout, b"\n");
 }
 
-// What the call by value answered.
-fn by_value(stdout: Stdout, a: LapRead) {
+// What a call answered.
+fn say(stdout: Stdout, a: Result<LapSym, Refusal>) {
     match a {
-        LapRead::Done(y) => {
-            let next = y.next;
-            line(stdout, y.value, next);
-        }
-        LapRead::Refused(no) => reply::refused(stdout, no),
-    }
-}
-
-// What the held reader answered.
-fn by_held(stdout: Stdout, y: ValueStep) {
-    let answer = y.answer;
-    let next = y.next;
-    match answer {
-        Value::Done(v) => line(stdout, v, next),
-        Value::Refused(no) => reply::refused(stdout, no),
+        Ok(y) => line(stdout, y.value, y.next),
+        Err(why) => reply::refused(stdout, why),
     }
 }
 
@@ -41,6 +28,6 @@ pub fn ask(stdout: Stdout, l: &[i32], s: &[u8]) {
     let d = reader(l);
     let fs = word(l, 0);
     let decay = word(l, 1);
-    by_value(stdout, laplace::ec_laplace_decode(d, s, fs, decay));
-    by_held(stdout, reader_held::plain::laplace(d, s, fs, decay));
+    say(stdout, laplace::ec_laplace_decode(d, s, fs, decay));
+    say(stdout, valued(reader_held::plain::laplace(d, s, fs, decay)));
 }

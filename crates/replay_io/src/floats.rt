@@ -14,10 +14,8 @@ pub fn float_of(bits: u32) -> f32 {
 
 // The numbers of a list as f32, as many as there is room for.
 pub fn floats_of(list: &[i32], x: &mut [f32]) {
-    let mut i = 0;
-    while i < x.len() {
+    for i in 0..x.len() {
         x[i] = float_of(word(list, i));
-        i += 1;
     }
 }
 
@@ -27,19 +25,8 @@ fn bits_of(x: f32) -> u32 {
 }
 
 // The text with the eight hex digits of an f32's bits after it.
-fn push_float(out: &mut [u8], n: usize, x: f32) -> usize {
+pub fn push_float(out: &mut [u8], n: usize, x: f32) -> usize {
     let mut word = [0u8; 8];
     hex_word(bits_of(x), &mut word, 0);
     push_all(out, n, &word)
-}
-
-// The text with the digits of each f32 after it.
-pub fn push_floats(out: &mut [u8], n: usize, x: &[f32]) -> usize {
-    let mut k = n;
-    let mut i = 0;
-    while i < x.len() {
-        k = push_float(out, k, x[i]);
-        i += 1;
-    }
-    k
 }

@@ -2,18 +2,18 @@
 use super::{push, read_some};
 use std::io::Stdin;
 
-// Where the input stands: how long the line in its buffer is, whether its line feed came, the next place in the block that was read
-// last, and how many bytes that has.
+// Where the input stands: how long the line in its buffer is, whether its line feed came (no Option: a line without one goes on in the next
+// block), the next place in the block that was read last, and how many bytes that has.
 #[derive(Clone, Copy)]
-pub struct Line {
-    pub length: usize,
-    pub whole: bool,
-    pub at: usize,
-    pub count: usize,
+struct Line {
+    length: usize,
+    whole: bool,
+    at: usize,
+    count: usize,
 }
 
 // Before the first line.
-pub fn begin() -> Line {
+fn begin() -> Line {
     Line {
         length: 0,
         whole: false,
@@ -24,29 +24,24 @@ pub fn begin() -> Line {
 
 // The byte at a place, and a line feed past the end.
 pub fn byte(s: &[u8], at: usize) -> u8 {
-    if at < s.len() { s[at] } else { b'\n' }
+    s.get(at).copied().unwrap_or(b'\n')
 }
 
-// The first n bytes of a buffer.
-pub fn first(s: &[u8], n: usize) -> &[u8] {
-    if n <= s.len() {
-        return &s[..n];
-    }
-    s
+// The first n entries of a buffer, or all that there are.
+pub fn first<T>(s: &[T], n: usize) -> &[T] {
+    s.get(..n).unwrap_or(s)
 }
 
 // The bytes of the block up to a line feed go after the first n bytes of the line, as far as there is room.
 fn take(block: &[u8], from: usize, count: usize, line: &mut [u8], n: usize) -> Line {
     let mut k = n;
-    let mut at = from;
-    while at < count {
+    for at in from..count {
         let b = byte(block, at);
-        at += 1;
         if b == b'\n' {
             return Line {
                 length: k,
                 whole: true,
-                at,
+                at: at + 1,
                 count,
             };
         }
@@ -55,16 +50,15 @@ fn take(block: &[u8], from: usize, count: usize, line: &mut [u8], n: usize) -> L
     Line {
         length: k,
         whole: false,
-        at,
+        at: count,
         count,
     }
 }
 
 // The next line. Where it is not whole, the input is at its end. Nothing says that the input ends, so the blocks are counted.
-pub fn next(stdin: Stdin, block: &mut [u8], line: &mut [u8], from: Line) -> Line {
+fn next(stdin: Stdin, block: &mut [u8], line: &mut [u8], from: Line) -> Line {
     let mut t = take(block, from.at, from.count, line, 0);
-    let mut blocks: u32 = 65536;
-    while 0 < blocks {
+    for _ in 0..65536 {
         if t.whole {
             return t;
         }
@@ -73,7 +67,20 @@ pub fn next(stdin: Stdin, block: &mut [u8], line: &mut [u8], from: Line) -> Line
             return t;
         }
         t = take(block, 0, count, line, t.length);
-        blocks -= 1;
     }
     t
+}
+
+// Has each line of the input answered, which is lent without its line feed.
+pub fn each<F: FnMut(&[u8])>(stdin: Stdin, block: &mut [u8], line: &mut [u8], mut answer: F)
+    requires { F.IsAlwaysCallable answer }
+{
+    let mut t = begin();
+    for _ in 0..u32::MAX {
+        t = next(stdin, block, line, t);
+        if !t.whole {
+            return;
+        }
+        answer(first(line, t.length));
+    }
 }

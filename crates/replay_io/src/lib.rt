@@ -1,5 +1,6 @@
 // Lines of numbers, read and written, for the programs that replay recorded answers. A text that is made stands in the first n bytes
 // of a lent buffer. Every function answers every input.
+// The programs' functions take of a request what they need, one by one: its letter, its numbers, its bytes, and where the answer goes.
 #![tactic(auto)]
 
 ghost use Rattle.std.specs.Prelude.{◌≡◌, ◌≤◌, [], ◌∷◌, length, take};
@@ -16,7 +17,7 @@ pub mod reply;
 pub mod say;
 pub mod state;
 
-// The text with one byte more, as far as the buffer has room; its length.
+// The text with one byte more, as far as the buffer has room; its length. `push` of text::lines has another promise, by which lines are cut.
 fn push(out: &mut [u8], n: usize, b: u8) -> usize
     ensures { take result out.new ≡ appended (length out.old) (take n out.old) (b ∷ []) }
 {
@@ -32,10 +33,8 @@ fn push_all(out: &mut [u8], n: usize, s: &[u8]) -> usize
     ensures { take result out.new ≡ appended (length out.old) (take n out.old) s.now }
 {
     let mut k = n;
-    let mut i = 0;
-    while i < s.len() {
-        k = push(out, k, s[i]);
-        i += 1;
+    for &b in s {
+        k = push(out, k, b);
     }
     k
 }
@@ -62,14 +61,9 @@ fn push_hex(out: &mut [u8], n: usize, s: &[u8]) -> usize
     ensures { take result out.new ≡ appended (length out.old) (take n out.old) (hex_bytes_of s.now) }
 {
     let mut k = n;
-    let mut i = 0;
-    while i < s.len() {
-        let b = s[i];
-        let high = (b / 16 % 16) as u32;
-        let low = (b % 16) as u32;
-        k = push(out, k, glyph(high));
-        k = push(out, k, glyph(low));
-        i += 1;
+    for &b in s {
+        k = push(out, k, glyph(u32::from(b / 16 % 16)));
+        k = push(out, k, glyph(u32::from(b % 16)));
     }
     k
 }

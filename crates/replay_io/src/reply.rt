@@ -1,20 +1,15 @@
 // Answers as text: a state is its numbers in the order of the port, then tell and tell_frac.
 use crate::say::{hex, numbers, text};
-use entcode::TellAnswer;
+use entcode::Refusal;
 use entdec::Reader;
 use entenc::Writer;
 use std::io::Stdout;
 
-// A mark as 0 or 1.
-pub fn mark(b: bool) -> u32 {
-    if b { 1 } else { 0 }
-}
-
 // What tell or tell_frac says; X before the number of a refusal.
-fn say_tell(stdout: Stdout, t: TellAnswer) {
+fn say_tell(stdout: Stdout, t: Result<u32, Refusal>) {
     match t {
-        TellAnswer::Done(v) => numbers(stdout, b"", &[v]),
-        TellAnswer::Refused(no) => numbers(stdout, b" X", &[no]),
+        Ok(v) => numbers(stdout, b"", &[v]),
+        Err(why) => numbers(stdout, b" X", &[u32::from(why)]),
     }
 }
 
@@ -35,8 +30,8 @@ pub fn writer(stdout: Stdout, w: Writer) {
             w.val,
             w.ext,
             w.rem,
-            mark(s.error),
-            mark(w.closed),
+            u32::from(s.error),
+            u32::from(w.closed),
         ],
     );
     say_tell(stdout, w.tell());
@@ -59,7 +54,7 @@ pub fn reader(stdout: Stdout, r: Reader) {
             r.val,
             r.ext,
             r.rem,
-            mark(r.error),
+            u32::from(r.error),
         ],
     );
     say_tell(stdout, r.tell());
@@ -91,10 +86,20 @@ pub fn read(stdout: Stdout, letter: u8, value: u32, r: Reader) {
     text(stdout, b"\n");
 }
 
+// A refusal.
+pub fn refusal(stdout: Stdout, why: Refusal) {
+    numbers(stdout, b"X", &[u32::from(why)]);
+}
+
 // The line of a call that was refused.
-pub fn refused(stdout: Stdout, no: u32) {
-    numbers(stdout, b"X", &[no]);
+pub fn refused(stdout: Stdout, why: Refusal) {
+    refusal(stdout, why);
     text(stdout, b"\n");
+}
+
+// The line of a letter that names no call.
+pub fn unknown(stdout: Stdout) {
+    text(stdout, b"X 0\n");
 }
 
 // The line of a request that has no meaning.

@@ -1,5 +1,7 @@
-// Pieces of an answer on standard output, each made in bytes of its own and written at once.
-use super::floats::push_floats;
+// Pieces of an answer on standard output, each made in bytes of its own, as many as it may need, and written at once.
+ghost use Rattle.std.specs.Prelude.{◌≤◌};
+
+use super::floats::push_float;
 use super::input::first;
 use super::{push_all, push_decimal, push_hex, push_number};
 use std::io::{Print, Stdout};
@@ -9,28 +11,43 @@ pub fn text(stdout: Stdout, s: &[u8]) {
     let _ = stdout.write_all(s);
 }
 
-// The text with each number after a blank.
-fn push_numbers(out: &mut [u8], n: usize, v: &[u32]) -> usize {
+// A piece made in N bytes: `push` writes it into them, and answers how many it has.
+fn piece<const N: usize, F: Fn(&mut [u8]) -> usize>(stdout: Stdout, push: F)
+    requires size { N ≤ 4096 }
+    requires calls { F.IsAlwaysCallable push }
+{
+    let mut out = [0u8; N];
+    let n = push(&mut out);
+    text(stdout, first(&out, n));
+}
+
+// The text with each entry of a list after it, by what puts one there.
+pub fn push_each<T: Copy, F: Fn(&mut [u8], usize, T) -> usize>(
+    out: &mut [u8],
+    n: usize,
+    l: &[T],
+    push: F,
+) -> usize
+    requires { F.IsAlwaysCallable push }
+{
     let mut k = n;
-    let mut i = 0;
-    while i < v.len() {
-        k = push_number(out, k, v[i]);
-        i += 1;
+    for &x in l {
+        k = push(out, k, x);
     }
     k
 }
 
 // A text, and after it each number with a blank before it; as much of it as 256 bytes hold.
 pub fn numbers(stdout: Stdout, before: &[u8], v: &[u32]) {
-    let mut out = [0u8; 256];
-    let k = push_all(&mut out, 0, before);
-    let n = push_numbers(&mut out, k, v);
-    text(stdout, first(&out, n));
+    piece::<256, _>(stdout, |out| {
+        let k = push_all(out, 0, before);
+        push_each(out, k, v, push_number)
+    });
 }
 
 // The text with a blank and v in decimal after it, a minus before a negative number.
 fn push_signed(out: &mut [u8], n: usize, v: i32) -> usize {
-    let size = laws::unsigned_abs(v);
+    let size = v.unsigned_abs();
     if 0 <= v {
         return push_number(out, n, size);
     }
@@ -38,36 +55,20 @@ fn push_signed(out: &mut [u8], n: usize, v: i32) -> usize {
     push_decimal(out, k, size)
 }
 
-// The text with each number of a list after it.
-fn push_list(out: &mut [u8], n: usize, l: &[i32]) -> usize {
-    let mut k = n;
-    let mut i = 0;
-    while i < l.len() {
-        let v = l[i];
-        k = push_signed(out, k, v);
-        i += 1;
-    }
-    k
-}
-
 // A text, and after it each whole number with a blank before it; as much of it as 512 bytes hold.
 pub fn list(stdout: Stdout, before: &[u8], l: &[i32]) {
-    let mut out = [0u8; 512];
-    let k = push_all(&mut out, 0, before);
-    let n = push_list(&mut out, k, l);
-    text(stdout, first(&out, n));
+    piece::<512, _>(stdout, |out| {
+        let k = push_all(out, 0, before);
+        push_each(out, k, l, push_signed)
+    });
 }
 
 // Bytes in lowercase hex, of which there may be 1,280.
 pub fn hex(stdout: Stdout, s: &[u8]) {
-    let mut out = [0u8; 2560];
-    let n = push_hex(&mut out, 0, s);
-    text(stdout, first(&out, n));
+    piece::<2560, _>(stdout, |out| push_hex(out, 0, s));
 }
 
 // Each f32 as the eight hex digits of its bits, of which there may be 200.
 pub fn floats(stdout: Stdout, x: &[f32]) {
-    let mut out = [0u8; 1600];
-    let n = push_floats(&mut out, 0, x);
-    text(stdout, first(&out, n));
+    piece::<1600, _>(stdout, |out| push_each(out, 0, x, push_float));
 }

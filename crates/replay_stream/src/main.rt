@@ -12,27 +12,19 @@ ghost use Rattle.std.specs.Prelude.{◌≤◌, length};
 
 use entdec::Reader;
 use std::io::{Print, Read, Stdin, Stdout};
-use stream::{Framed, Record};
-use stream_saved::Saved;
+use stream::{Applied, Record};
 use text::fields::field;
 use text::read::{number_at, signed_at};
 use text::write::decimal;
-use text::{Number, Whole};
 
 // The number in a field, 0 where there is none.
 fn count(s: &[u8], n: usize) -> u32 {
-    match number_at(s, n, 4294967295) {
-        Number::Got(v) => v,
-        Number::Bad => 0,
-    }
+    number_at(s, n, u32::MAX).unwrap_or(0)
 }
 
 // The signed number in a field, 0 where there is none.
 fn whole(s: &[u8], n: usize) -> i32 {
-    match signed_at(s, n) {
-        Whole::Is(v) => v,
-        Whole::Wrong => 0,
-    }
+    signed_at(s, n).unwrap_or(0)
 }
 
 // The reader of the eleven numbers from field 7 on.
@@ -67,23 +59,21 @@ fn say(stdout: Stdout, v: u32) {
 
 // Each of some numbers.
 fn say_all(stdout: Stdout, v: &[u32]) {
-    let mut k: usize = 0;
-    while k < v.len() {
-        say(stdout, v[k]);
-        k += 1;
+    for &x in v {
+        say(stdout, x);
     }
 }
 
 // The reader's numbers.
 fn say_reader(stdout: Stdout, d: Reader) {
-    let mark = if d.error { 1 } else { 0 };
+    let mark = u32::from(d.error);
     let v = [
         d.storage, d.ends, d.window, d.waiting, d.total, d.offs, d.rng, d.val, d.ext, d.rem, mark,
     ];
     say_all(stdout, &v);
 }
 
-// A letter and a code.
+// A letter and a code, 0 or a refusal's number, as it is printed.
 fn say_code(stdout: Stdout, letter: &[u8], code: u32) {
     say_text(stdout, letter);
     say(stdout, code);
@@ -93,22 +83,26 @@ fn say_code(stdout: Stdout, letter: &[u8], code: u32) {
 // The record that a line says, or else the one that was there.
 fn restore(s: &[u8], rec: Record) -> Record {
     let r = stream_saved::restore(s);
-    if r.code == 0 {
-        return r.rec;
+    match r.answer {
+        Ok(()) => r.rec,
+        Err(_) => rec,
     }
-    rec
 }
 
 // A saved line is restored.
 fn restored(stdout: Stdout, s: &[u8], rec: Record) -> Record {
-    say_code(stdout, b"R", stream_saved::restore(s).code);
+    let code = match stream_saved::restore(s).answer {
+        Ok(()) => 0,
+        Err(why) => u32::from(why),
+    };
+    say_code(stdout, b"R", code);
     restore(s, rec)
 }
 
 // The same, by way of the lent bytes.
 fn put(stdout: Stdout, rec: Record, line: &mut [u8]) -> Record {
     match stream_saved::save(rec, line) {
-        Saved::Done(n) => {
+        Ok(n) => {
             if n <= line.len() {
                 say_text(stdout, &line[..n]);
                 say_text(stdout, b"\n");
@@ -116,8 +110,8 @@ fn put(stdout: Stdout, rec: Record, line: &mut [u8]) -> Record {
             }
             rec
         }
-        Saved::Refused(no) => {
-            say_code(stdout, b"S", no);
+        Err(why) => {
+            say_code(stdout, b"S", u32::from(why));
             rec
         }
     }
@@ -129,9 +123,9 @@ fn save(stdout: Stdout, rec: Record) -> Record {
     put(stdout, rec, &mut line)
 }
 
-// Frame `number`, with the other numbers of a request.
-fn apply(s: &[u8], d: Reader, packet: &[u8], number: u64, rec: Record) -> Framed {
-    rec.frame(
+// Frame `number`, with the other numbers of a request: its code, and the record and the reader after it, which a refusal leaves.
+fn apply(s: &[u8], d: Reader, packet: &[u8], number: u64, rec: Record) -> (u32, Applied) {
+    let answer = rec.frame(
         d,
         packet,
         number,
@@ -140,33 +134,32 @@ fn apply(s: &[u8], d: Reader, packet: &[u8], number: u64, rec: Record) -> Framed
         whole(s, 4),
         whole(s, 5),
         whole(s, 6),
-    )
+    );
+    match answer {
+        Ok(y) => (0, y),
+        Err(why) => (u32::from(why), Applied { rec, next: d }),
+    }
 }
 
 // A skip, the frame, and its repeat.
 fn thrice(stdout: Stdout, s: &[u8], packet: &[u8], rec: Record) -> Record {
-    let number = count(s, 1) as u64;
+    let number = u64::from(count(s, 1));
     let d = reader(s);
-    let skip = apply(s, d, packet, number + 1, rec);
-    let mid = skip.rec;
-    let own = apply(s, d, packet, number, mid);
-    let then = own.rec;
-    let again = apply(s, d, packet, number, then);
+    let (skip, mid) = apply(s, d, packet, number + 1, rec);
+    let (own, then) = apply(s, d, packet, number, mid.rec);
+    let (again, last) = apply(s, d, packet, number, then.rec);
     say_text(stdout, b"F");
-    say_all(stdout, &[skip.code, own.code, again.code]);
-    let after = own.next;
-    say_reader(stdout, after);
+    say_all(stdout, &[skip, own, again]);
+    say_reader(stdout, then.next);
     say_text(stdout, b"\n");
-    save(stdout, again.rec)
+    save(stdout, last.rec)
 }
 
 // The packet of a request goes to the lent bytes.
 fn unpack(stdout: Stdout, s: &[u8], packet: &mut [u8], rec: Record) -> Record {
-    let p = field(s, 18);
-    let start = p.start;
-    let end = p.end;
-    let n = (end - start) / 2;
-    text::hex::bytes(&s[start..end], packet);
+    let digits = field(s, 18);
+    let n = digits.len() / 2;
+    text::hex::bytes(digits, packet);
     if n <= packet.len() {
         return thrice(stdout, s, &packet[..n], rec);
     }
@@ -181,14 +174,11 @@ fn frame(stdout: Stdout, s: &[u8], rec: Record) -> Record {
 
 // A value that is not finite.
 fn wild(which: u32) -> f32 {
-    let top = f32::from_bits(0x7f80_0000);
-    if which == 0 {
-        return top - top;
+    match which {
+        0 => f32::NAN,
+        1 => f32::INFINITY,
+        _ => f32::NEG_INFINITY,
     }
-    if which == 1 {
-        return top;
-    }
-    -top
 }
 
 // An energy becomes such a value.
@@ -211,39 +201,20 @@ fn number(rec: Record, next: u64) -> Record {
 
 // One request.
 fn answer(stdout: Stdout, s: &[u8], rec: Record) -> Record {
-    let letter = if 0 < s.len() { s[0] } else { 0 };
-    match letter {
-        b'F' => frame(stdout, s, rec),
-        b'N' => Record::fresh(),
-        b'T' => number(rec, count(s, 1) as u64 + count(s, 2) as u64),
-        b'X' => spoil(rec, count(s, 1) as usize, count(s, 2)),
+    match s {
+        [b'F', ..] => frame(stdout, s, rec),
+        [b'N', ..] => Record::fresh(),
+        [b'T', ..] => number(rec, u64::from(count(s, 1)) + u64::from(count(s, 2))),
+        [b'X', ..] => spoil(rec, count(s, 1) as usize, count(s, 2)),
         _ => restored(stdout, s, rec),
     }
-}
-
-// The place of the first line feed from a place on, or the end.
-fn line_end(s: &[u8], at: usize) -> usize
-    requires { at ≤ length s.now }
-    ensures { (at ≤ result) × (result ≤ length s.now) }
-{
-    let mut i = at;
-    while i < s.len() {
-        if s[i] == b'\n' {
-            return i;
-        }
-        i += 1;
-    }
-    i
 }
 
 // Every line of the input.
 fn run(stdout: Stdout, s: &[u8]) {
     let mut rec = Record::fresh();
-    let mut at: usize = 0;
-    while at < s.len() {
-        let end = line_end(s, at);
-        rec = answer(stdout, &s[at..end], rec);
-        at = end + 1;
+    for line in s.split_inclusive(|b| *b == b'\n') {
+        rec = answer(stdout, line.strip_suffix(b"\n").unwrap_or(line), rec);
     }
 }
 

@@ -7,14 +7,15 @@
 mod numbers;
 mod say;
 
+use entcode::Refusal;
 use numbers::signed;
 use rate::{AllocNumbers, Wishes};
 use replay_io::list::{part, word};
 use replay_io::{input, list};
-use std::io::{Stdin, Stdout};
-use trip_call::Trip;
+use std::io::Stdout;
+use trip_call::Outcome;
 
-// The allocation's numbers.
+// The allocation's numbers, at the places and in the form that this program's lines have them.
 fn asked(l: &[i32]) -> AllocNumbers {
     AllocNumbers {
         c: signed(l, 2),
@@ -26,7 +27,7 @@ fn asked(l: &[i32]) -> AllocNumbers {
     }
 }
 
-// The encoder's wishes.
+// The encoder's wishes, in the same way.
 fn wished(l: &[i32]) -> Wishes {
     Wishes {
         intensity: signed(l, 8),
@@ -37,7 +38,7 @@ fn wished(l: &[i32]) -> Wishes {
 }
 
 // The trip of a line's numbers, over these bytes, tables and symbols.
-fn trip(l: &[i32], bytes: &[u8], tables: &[u8], symbols: &[u32]) -> Trip {
+fn trip(l: &[i32], bytes: &[u8], tables: &[u8], symbols: &[u32]) -> Result<Outcome, Refusal> {
     let mut offsets = [0i32; 21];
     let mut caps = [0i32; 21];
     numbers::whole(numbers::after(l, 12), &mut offsets);
@@ -46,7 +47,7 @@ fn trip(l: &[i32], bytes: &[u8], tables: &[u8], symbols: &[u32]) -> Trip {
 }
 
 // The same, over so many bytes, as many table entries as the line says, and the symbols after them.
-fn over(l: &[i32], storage: u32, entries: u32) -> Trip {
+fn over(l: &[i32], storage: u32, entries: u32) -> Result<Outcome, Refusal> {
     let k = entries as usize;
     let bytes = [(word(l, 1) % 256) as u8; 1300];
     let mut tables = [0u8; 300];
@@ -58,7 +59,7 @@ fn over(l: &[i32], storage: u32, entries: u32) -> Trip {
         l,
         input::first(&bytes, storage as usize),
         input::first(&tables, k),
-        numbers::first(&symbols, rest.len()),
+        input::first(&symbols, rest.len()),
     )
 }
 
@@ -72,32 +73,23 @@ fn answer(stdout: Stdout, l: &[i32]) {
     say::trip(stdout, over(l, storage, entries))
 }
 
-// Answers the line in the first n bytes of its buffer.
-fn step(stdout: Stdout, line: &[u8], n: usize) {
+// Answers a line.
+fn step(stdout: Stdout, request: &[u8]) {
     let mut l = [0i32; 1024];
-    let count = list::read(input::first(line, n), 1, &mut l);
-    if 1024 < count {
-        return say::malformed(stdout);
-    }
-    answer(stdout, part(&l, 0, count))
-}
-
-// Answers each line of the input.
-fn run(stdin: Stdin, stdout: Stdout, block: &mut [u8], line: &mut [u8]) {
-    let mut t = input::begin();
-    let mut lines: u32 = 4294967295;
-    while 0 < lines {
-        t = input::next(stdin, block, line, t);
-        if !t.whole {
-            return;
-        }
-        step(stdout, line, t.length);
-        lines -= 1;
+    match list::read(request, 1, &mut l) {
+        Some(count) => answer(stdout, part(&l, 0, count)),
+        None => say::malformed(stdout),
     }
 }
 
 fn main(rt: HostRuntime) {
     let mut block = [0u8; 65536];
     let mut line = [0u8; 12000];
-    run(rt.stdin(), rt.stdout(), &mut block, &mut line);
+    let stdout = rt.stdout();
+    input::each(
+        rt.stdin(),
+        &mut block,
+        &mut line,
+        |request| step(stdout, request),
+    );
 }

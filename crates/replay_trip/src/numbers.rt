@@ -8,20 +8,15 @@ pub fn signed(l: &[i32], i: usize) -> i32 {
 
 // Whole numbers.
 pub fn whole(l: &[i32], out: &mut [i32]) {
-    let mut i: usize = 0;
-    while i < out.len() {
-        let z = signed(l, i);
-        out[i] = z;
-        i += 1;
+    for i in 0..out.len() {
+        out[i] = signed(l, i);
     }
 }
 
-// Numbers from 0 to 4,294,967,295.
+// Numbers from 0 to 4,294,967,295: another reading of a number than above, in one line, so that a closure for it is no plainer.
 pub fn words(l: &[i32], out: &mut [u32]) {
-    let mut i: usize = 0;
-    while i < out.len() {
+    for i in 0..out.len() {
         out[i] = word(l, i);
-        i += 1;
     }
 }
 
@@ -32,12 +27,4 @@ pub fn after(l: &[i32], from: usize) -> &[i32] {
         return &l[from..];
     }
     &l[n..]
-}
-
-// The first n.
-pub fn first(s: &[u32], n: usize) -> &[u32] {
-    if n <= s.len() {
-        return &s[..n];
-    }
-    s
 }

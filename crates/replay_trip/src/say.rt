@@ -1,7 +1,8 @@
 // A trip as text.
+use entcode::Refusal;
 use replay_io::say::{numbers, text};
 use std::io::Stdout;
-use trip_call::{Call, Outcome, Trip};
+use trip_call::{Call, Outcome};
 
 // A line that has no meaning.
 pub fn malformed(stdout: Stdout) {
@@ -10,8 +11,8 @@ pub fn malformed(stdout: Stdout) {
 
 // The call of a symbol, whose place is below 2^32 here.
 fn symbol(stdout: Stdout, i: usize) {
-    if i <= 4294967295 {
-        numbers(stdout, b"refused symbol", &[i as u32]);
+    if let Ok(place) = u32::try_from(i) {
+        numbers(stdout, b"refused symbol", &[place]);
     }
 }
 
@@ -29,9 +30,9 @@ fn call(stdout: Stdout, by: Call) {
 fn outcome(stdout: Stdout, r: Outcome) {
     match r {
         Outcome::Agreed => text(stdout, b"agreed\n"),
-        Outcome::Refused(by, no) => {
+        Outcome::Refused(by, why) => {
             call(stdout, by);
-            numbers(stdout, b"", &[no]);
+            numbers(stdout, b"", &[u32::from(why)]);
             text(stdout, b"\n");
         }
         Outcome::NotClosed => text(stdout, b"not closed\n"),
@@ -40,11 +41,11 @@ fn outcome(stdout: Stdout, r: Outcome) {
 }
 
 // The line of a trip.
-pub fn trip(stdout: Stdout, t: Trip) {
+pub fn trip(stdout: Stdout, t: Result<Outcome, Refusal>) {
     match t {
-        Trip::Done(r) => outcome(stdout, r),
-        Trip::Refused(no) => {
-            numbers(stdout, b"refused", &[no]);
+        Ok(r) => outcome(stdout, r),
+        Err(why) => {
+            numbers(stdout, b"refused", &[u32::from(why)]);
             text(stdout, b"\n");
         }
     }

@@ -12,7 +12,7 @@ use borrow.Author.Tests.{eq-eqb, ne_eqb, eqb-true, eqb-false, lt-ltb, le-ltb}
 use Rattle.laws.proofs.Tests.{by_le, cond-by}
 use Rattle.entdec.proofs.Accepted.{opened}
 use Rattle.stream.specs.declared.Record.{Record}
-use Rattle.stream.specs.declared.Framed.{Framed}
+use Rattle.stream.specs.Frame.{Framed}
 use Rattle.stream.specs.Frame.{Call, fresh, order_of, refusal_frame, frame_refused, frame_answer, framed}
 use Rattle.stream.proofs.Accepts.{answer-refused}
 use Rattle.stream.specs.History.{record_after, applied_in, numbers_from, times, OnlyTheNext, RefusedChangesNothing, InOrder, EachOnce, CountsUp, NeverAgain}

@@ -5,12 +5,13 @@ use Rattle.std.specs.Float.Ieee.Scale.{finite}
 use Rattle.laws.specs.Lists.{every}
 use Rattle.laws.specs.Signs.{clip}
 use Rattle.entcode.specs.Refusal.{refusal}
+use Rattle.entcode.specs.Said.{Said, answer}
 use Rattle.entdec.specs.declared.Reader.{Reader}
 use Rattle.entdec.specs.Rule.{read_refusal}
 use Rattle.quant_bands.specs.Coarse.{coarse}
 use Rattle.quant_bands.specs.Question.{coarse_ok, is_intra}
 use Rattle.stream.specs.declared.Record.{Record}
-use Rattle.stream.specs.declared.Framed.{Framed}
+use Rattle.stream.specs.declared.Applied.{Applied}
 
 -- the record before the first frame: 42 energies of zero, and number 0 comes next
 unfoldable pub fresh : Record
@@ -60,11 +61,25 @@ refusal_frame r q =
 
 -- ---- the answer
 
--- a frame that is applied: one coarse decode of the record's energies, and the next number goes up by one
-abbrev pub applied : Record → Reader → List ℕ → ℤ → ℤ → ℤ → ℤ → ℤ → Framed
-applied r d s c lm start end intra =
-    let y = coarse (clip c) (clip lm) (is_intra intra) (clip start) (clip end) s d r.energies in
+-- what a frame comes to: code 0, and the record and the reader after it; or the number of the refusal, and both as they were
+pub record Framed : Type 0 where
+  pub code : ℕ
+  pub rec : Record
+  pub next : Reader
+
+-- code 0, with what the call that applied it answers
+abbrev pub framed_by : Applied → Framed
+framed_by y = record { code = 0; rec = y.rec; next = y.next }
+
+-- a frame that is applied, of numbers as counts: one coarse decode of the record's energies, and the next number goes up by one
+abbrev pub applied_counts : Record → Reader → List ℕ → ℕ → ℕ → Bool → ℕ → ℕ → Framed
+applied_counts r d s c lm intra start end =
+    let y = coarse c lm intra start end s d r.energies in
     record { code = 0; rec = record { energies = y.energies; next = r.next + 1 }; next = y.next }
+
+-- of the numbers that a call is handed
+abbrev pub applied : Record → Reader → List ℕ → ℤ → ℤ → ℤ → ℤ → ℤ → Framed
+applied r d s c lm start end intra = applied_counts r d s (clip c) (clip lm) (is_intra intra) (clip start) (clip end)
 
 -- a frame that is refused: record and reader as they were
 abbrev pub frame_refused : ℕ → Record → Reader → Framed
@@ -78,3 +93,7 @@ frame_answer (suc n) r q = frame_refused (suc n) r q.coder
 -- a checked frame
 abbrev pub framed : Record → Call → Framed
 framed r q = frame_answer (refusal_frame r q) r q
+
+-- what the call says of it: the record and the reader after the frame, or the number of the refusal
+abbrev pub frame_said : Framed → Said Applied
+frame_said y = answer y.code (record { rec = y.rec; next = y.next })

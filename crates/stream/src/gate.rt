@@ -2,10 +2,12 @@
 ghost use Rattle.std.specs.Prelude.{◌≡◌, true};
 ghost use Rattle.laws.specs.Lists.{every};
 ghost use Rattle.std.specs.Float.Ieee.Scale.{finite};
+ghost use Rattle.entcode.specs.Said.{verdict};
 ghost use Rattle.entdec.specs.Rule.{read_refusal};
 ghost use Rattle.stream.specs.Frame.{both_in_domain, numbers_ok, order_of};
 
 use crate::{Record, order_of};
+use entcode::Refusal;
 use entdec::Reader;
 use laws::all_finite;
 use quant_bands::gate::coarse_ok;
@@ -24,7 +26,7 @@ pub fn numbers_ok(next: u64, number: u64, c: i32, lm: i32, start: i32, end: i32,
     coarse_ok(c, lm, start, end, intra) & both_in_domain(next, number)
 }
 
-// The number of the refusal of a frame of so many bytes, 0 for none.
+// The refusal of a frame of so many bytes.
 pub fn refusal(
     rec: Record,
     d: Reader,
@@ -35,8 +37,9 @@ pub fn refusal(
     start: i32,
     end: i32,
     intra: i32,
-) -> u32
-    ensures { result ≡ read_refusal bytes d true (numbers_ok rec.next number c lm start end intra) (every finite rec.energies) (order_of rec.next number) }
+) -> Result<(), Refusal>
+    ensures { verdict result ≡ read_refusal bytes d true (numbers_ok rec.next number c lm start end intra)
+        (every finite rec.energies) (order_of rec.next number) }
 {
     let e = rec.energies;
     let known = numbers_ok(rec.next, number, c, lm, start, end, intra);

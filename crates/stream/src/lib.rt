@@ -3,9 +3,12 @@
 #![tactic(auto)]
 
 ghost use Rattle.std.specs.Prelude.{◌≡◌};
-ghost use Rattle.stream.specs.Frame.{fresh, order_of, ordered, call, framed};
+ghost use Rattle.entcode.specs.Said.{said, verdict};
+ghost use Rattle.stream.specs.Frame.{fresh, order_of, ordered, call, framed, frame_said};
 
+use entcode::Refusal;
 use entdec::Reader;
+use quant_bands::bands::Frame;
 
 pub mod gate;
 pub mod work;
@@ -18,32 +21,31 @@ pub struct Record {
     pub next: u64,
 }
 
-// What a frame answers: code 0, the record and the reader after it; or the number of the refusal, and both as they were.
+// A frame that was applied: the record and the reader after it.
 #[derive(Clone, Copy)]
-pub struct Framed {
-    pub code: u32,
+pub struct Applied {
     pub rec: Record,
     pub next: Reader,
 }
 
 // A repeat is refused here: a number below the record's next was applied before, and its frame is refused as 10. A number above the next would leave
-// a gap and is refused as 11; the next itself is 0, no refusal. `order` and the gate of `frame` both ask here; specs/History.antt states what follows.
-pub fn order_of(next: u64, number: u64) -> u32
-    ensures { result ≡ order_of next number }
+// a gap and is refused as 11; the next itself is no refusal. `order` and the gate of `frame` both ask here; specs/History.antt states what follows.
+pub fn order_of(next: u64, number: u64) -> Result<(), Refusal>
+    ensures { verdict result ≡ order_of next number }
 {
     // the repeat
     if number < next {
-        return 10;
+        return Err(Refusal::BelowNext);
     }
     if next < number {
-        return 11;
+        return Err(Refusal::AboveNext);
     }
-    0
+    Ok(())
 }
 
 // Whether frame `number` comes next: refused as 1 (either number outside its domain), 10 (below the next) and 11 (above it).
-pub fn order(next: u64, number: u64) -> u32
-    ensures { result ≡ ordered next number }
+pub fn order(next: u64, number: u64) -> Result<(), Refusal>
+    ensures { verdict result ≡ ordered next number }
 {
     let known = gate::both_in_domain(next, number);
     let special = order_of(next, number);
@@ -62,8 +64,9 @@ impl Record {
     }
 
     // Frame `number`, whose coarse energies the reader d stands before in the packet s. Where it is the record's next, its coarse energies are decoded
-    // once over those of the record, and the number after it comes next. Refused as 2 (bytes), 1 (the state, the numbers, the record's next number),
-    // 3 (an energy of the record that is not finite), 10 (a number below the next), 11 (one above it) and 4.
+    // once over those of the record, and the number after it comes next; a refused frame leaves both as the caller has them. Refused as 2 (bytes),
+    // 1 (the state, the numbers, the record's next number), 3 (an energy of the record that is not finite), 10 (a number below the next), 11 (one above
+    // it) and 4.
     pub fn frame(
         self,
         d: Reader,
@@ -74,18 +77,11 @@ impl Record {
         start: i32,
         end: i32,
         intra: i32,
-    ) -> Framed
-        ensures { result ≡ framed self (call d s.now number c lm start end intra) }
+    ) -> Result<Applied, Refusal>
+        ensures { said result ≡ frame_said (framed self (call d s.now number c lm start end intra)) }
     {
-        let no = gate::refusal(self, d, s.len(), number, c, lm, start, end, intra);
-        if no == 0 {
-            work::apply(self, d, s, c, lm, start, end, intra)
-        } else {
-            Framed {
-                code: no,
-                rec: self,
-                next: d,
-            }
-        }
+        gate::refusal(self, d, s.len(), number, c, lm, start, end, intra)?;
+        let f = Frame::of(c, lm, start, end, intra);
+        Ok(work::apply(self, d, s, f))
     }
 }

@@ -2,13 +2,13 @@
 use Prim.Native.Nat.{ℕ, zero, suc}
 use mathlib.Core.Path.{◌≡◌, refl, ap, sym, ◌∙◌}
 use mathlib.Core.Bool.{Bool, true, false, true≢false}
-use Rattle.entcode.specs.Said.{Said, answer as said-by}
+use Rattle.entcode.specs.Said.{Said, answer as said-by, said}
 use Rattle.entcode.specs.Said.Said.{done, refused}
 use Rattle.entdec.specs.declared.Reader.{Reader}
 use Rattle.stream.specs.declared.Record.{Record}
 use Rattle.stream.specs.Frame.{Call, frame_answer, framed, refusal_frame}
 use Rattle.stream_lent.specs.declared.AppliedStep.{AppliedStep}
-use Rattle.stream_lent.specs.Lent.{Stepped, said, said_step, step_of}
+use Rattle.stream_lent.specs.Lent.{Stepped, said_step, step_of}
 
 -- it is no refusal
 abbrev is_done : Said Reader → Bool

@@ -1,16 +1,29 @@
--- What a frame by value gave, as a step. Assumes nothing.
-use mathlib.Core.Path.{◌≡◌, ap, sym}
-use Rattle.entcode.specs.Said.{Said}
-use Rattle.entcode.proofs.Said.{answer-done, answer-refused}
+-- What a frame by value said, as a step. Assumes nothing.
+use Prim.Native.Nat.{ℕ, zero, suc}
+use mathlib.Core.Path.{◌≡◌, ap}
+use native.Mathlib.Omega.{arith}
+use Rattle.entcode.specs.Said.{answer, number}
+use Rattle.entcode.specs.Said.Said.{done, refused}
 use Rattle.entdec.specs.declared.Reader.{Reader}
-use Rattle.stream.specs.declared.Framed.{Framed}
-use Rattle.stream_lent.specs.declared.Applied.TheVariants.{Done, Refused}
-use Rattle.stream_lent.specs.Lent.{said, step_of, stepped}
+use Rattle.stream.specs.declared.Applied.{Applied}
+use Rattle.stream.specs.declared.Record.{Record}
+use Rattle.stream.specs.Frame.{Call, Framed, frame_answer, frame_said}
+use Rattle.stream_lent.specs.Lent.{step_of, stepped}
 
--- code 0
-pub step-done : (y : Framed) → y.code ≡ 0 → stepped (said (Done y.next)) y.rec ≡ step_of y
-step-done y e = ap (λ (a : Said Reader). stepped a y.rec) (sym (answer-done y.code y.next e))
+-- what was applied, by the number of the refusal
+applied : (n : ℕ) (r : Record) (d : Reader) (y : Applied) → done y ≡ answer n (record { rec = r; next = d })
+    → stepped (done y.next) y.rec ≡ stepped (answer n d) r
+unfolding answer
+applied zero r d y e = let p : y ≡ record { rec = r; next = d } = cc in ap (λ (x : Applied). stepped (done x.next) x.rec) p
+applied (suc n) r d y e = let p : ◌≡◌ {A = ℕ} 0 (suc n) = ap number e in absurd (omega arith)
 
--- any other
-pub step-refused : (y : Framed) → (y.code ≡ 0 → ⊥) → stepped (said (Refused y.code)) y.rec ≡ step_of y
-step-refused y h = ap (λ (a : Said Reader). stepped a y.rec) (sym (answer-refused y.code y.next h))
+-- a frame that was applied
+pub step-done : (z : Framed) (y : Applied) → done y ≡ frame_said z → stepped (done y.next) y.rec ≡ step_of z
+step-done z y e = applied z.code z.rec z.next y e
+
+-- a refusal, which leaves the record
+pub step-refused : (n : ℕ) (h : Record) (q : Call) (k : ℕ) → (k ≡ 0 → ⊥) → refused k ≡ frame_said (frame_answer n h q)
+    → stepped (refused k) h ≡ step_of (frame_answer n h q)
+unfolding answer frame_answer
+step-refused zero h q k z e = absurd (z (ap number e))
+step-refused (suc n) h q k z e = let p : k ≡ suc n = ap number e in ap (λ (m : ℕ). stepped (refused m) h) p

@@ -1,17 +1,9 @@
 -- What a frame on a lent record says, and what the record is then: those of the call by value.
-use Rattle.entcode.specs.Said.{Said, answer}
-use Rattle.entcode.specs.Said.Said.{done, refused}
+use Rattle.entcode.specs.Said.{Said, answer, said}
 use Rattle.entdec.specs.declared.Reader.{Reader}
-use Rattle.stream.specs.declared.Framed.{Framed}
+use Rattle.stream.specs.Frame.{Framed}
 use Rattle.stream.specs.declared.Record.{Record}
-use Rattle.stream_lent.specs.declared.Applied.{Applied}
-use Rattle.stream_lent.specs.declared.Applied.TheVariants.{Done, Refused}
 use Rattle.stream_lent.specs.declared.AppliedStep.{AppliedStep}
-
--- what an answer says
-abbrev pub said : Applied → Said Reader
-said (Done d) = done d
-said (Refused n) = refused n
 
 -- what is said, and the record after it
 pub record Stepped : Type 0 where

@@ -1,29 +1,23 @@
 // The stream record for callers that lend it and keep it where it is, over the frame call that takes it by value.
-// Document 01, "Energies, shapes and the stream record". What branches stands in `moves`, and `plain` is for callers that lend nothing.
+// Document 01, "Energies, shapes and the stream record". `plain` is for callers that lend nothing.
 #![tactic(auto)]
 
 ghost use Rattle.std.specs.Prelude.{◌≡◌, ℕ};
 ghost use Rattle.stream.specs.Frame.{call, framed};
+ghost use Rattle.entcode.specs.Said.{said};
 ghost use Rattle.entcode.specs.Said.Said.{refused};
-ghost use Rattle.stream_lent.specs.Lent.{said, step_of};
+ghost use Rattle.stream_lent.specs.Lent.{step_of};
 
+use entcode::Refusal;
 use entdec::Reader;
 use stream::Record;
 
-pub mod moves;
 pub mod plain;
 
-// What a frame on a lent record answers: the reader after it, or the number of the refusal.
-#[derive(Clone, Copy)]
-pub enum Applied {
-    Done(Reader),
-    Refused(u32),
-}
-
-// That, and the record after it.
+// What a frame answers, the reader after it or the refusal; and the record after it, which a refusal leaves.
 #[derive(Clone, Copy)]
 pub struct AppliedStep {
-    pub answer: Applied,
+    pub answer: Result<Reader, Refusal>,
     pub rec: Record,
 }
 
@@ -38,12 +32,12 @@ pub fn frame(
     start: i32,
     end: i32,
     intra: i32,
-) -> Applied
+) -> Result<Reader, Refusal>
     ensures { (said result ≡ (step_of (framed rec.old (call d s.now number c lm start end intra))).said)
         × (rec.new ≡ (step_of (framed rec.old (call d s.now number c lm start end intra))).rec)
         × ((n : ℕ) → said result ≡ refused n → rec.new ≡ rec.old) }
 {
-    let out = moves::frame(*rec, d, s, number, c, lm, start, end, intra);
-    *rec = out.rec;
-    out.answer
+    let y = rec.frame(d, s, number, c, lm, start, end, intra)?;
+    *rec = y.rec;
+    Ok(y.next)
 }

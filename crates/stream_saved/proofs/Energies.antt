@@ -1,4 +1,5 @@
 -- The energies of a line, field by field, and what a line answers. Assumes nothing.
+use Rattle.std.specs.Prelude.{Option, Some, None}
 use Prim.Native.Nat.{ℕ, zero, suc, ◌+◌, ◌-◌, ◌≤◌, ◌<◌}
 use mathlib.Core.Path.{◌≡◌, refl, sym, ap, ◌∙◌}
 use mathlib.Core.Bool.{true, ◌&&◌, ◌||◌, and-true, and_assoc, and-eq-true_iff}
@@ -16,19 +17,17 @@ use Rattle.laws.specs.Signs.{in_range}
 use Rattle.laws.proofs.Lists.{drop-next}
 use Rattle.laws.proofs.Tests.{cond-by}
 use Rattle.entcode.specs.Refusal.{refusal}
+use Rattle.std.specs.List.{enumerate_from, slice_split}
+use Rattle.std.proofs.lemmas.List.FromFn.{length-enumerate_from, get_or-enumerate_from}
+use Rattle.text.proofs.FieldLaws.{separated_is}
 use Rattle.text.specs.Fields.{fields_of, field_of}
 use Rattle.text.specs.Numbers.{kept_in}
-use Rattle.text.specs.declared.Number.{Number}
-use Rattle.text.specs.declared.Number.TheVariants.{Got, Bad}
-use Rattle.text.specs.declared.Whole.{Whole}
-use Rattle.text.specs.declared.Whole.TheVariants as whole
 use Rattle.stream.specs.declared.Record.{Record}
 use Rattle.stream.specs.Frame.{fresh}
 use Rattle.stream_saved.specs.declared.Energy.{Energy}
 use Rattle.stream_saved.specs.declared.Fields.{Fields}
-use Rattle.stream_saved.specs.declared.Restored.{Restored}
 use Rattle.stream_saved.specs.Fields.{Small, energy_of, not_wrong, not_wild, float_of}
-use Rattle.stream_saved.specs.Lines.{letter, next_read, well_formed, refusal_line, refused_as, answer_restored, restoring}
+use Rattle.stream_saved.specs.Lines.{letter, next_read, well_formed, refusal_line, Restored, refused_as, answer_restored, restoring}
 use Rattle.stream_saved.specs.Loop.{none_read, read_field, read_from, refusal_fields, record_of_fields}
 
 -- ---- a field of a Q line
@@ -39,9 +38,9 @@ size-most (pos n) e = let h = leb-true n 32767 ((and-eq-true_iff true (leb n 327
 size-most (negsuc n) e = let h = leb-true n 32767 ((and-eq-true_iff (leb n 32767) true).0 e).0 in omega arith
 
 -- so is a number that was read and kept
-pub kept_small : (w : Whole) → Small (kept_in (negsuc 32767) (pos 32767) w)
-kept_small (whole.Is z) = cond-by Small (in_range (negsuc 32767) (pos 32767) z) (size-most z) (λ e. tt)
-kept_small whole.Wrong = tt
+pub kept_small : (w : Option ℤ) → Small (kept_in (negsuc 32767) (pos 32767) w)
+kept_small (Some z) = cond-by Small (in_range (negsuc 32767) (pos 32767) z) (size-most z) (λ e. tt)
+kept_small None = tt
 
 -- ---- a field put to the others
 
@@ -80,6 +79,39 @@ module _ (s : List ℕ) (l : ℕ) (h : length (fields_of s) ≡ 44) where
       let d : drop k (said s l) ≡ v ∷ drop (k + 1) (said s l) =
       drop-next (said s l) k (energy_of l []) (omega arith) ∙ ap (λ (x : Energy). x ∷ drop (k + 1) (said s l)) (said_at k ∙ sym e) in
       sym (ap (read_from f k) d ∙ read_step f k v (drop (k + 1) (said s l)))
+
+-- the fields after the next number, each with its place among them, as the chain gives them
+abbrev pub numbered : List ℕ → List (ℕ × List ℕ)
+numbered s = enumerate_from 0 (drop 2 (slice_split (λ b. eqb b 9) s))
+
+module _ (s : List ℕ) (h : length (fields_of s) ≡ 44) where
+  -- there are 42
+  pub numbered-length : length (numbered s) ≡ 42
+  numbered-length =
+      length-enumerate_from 0 (drop 2 (slice_split (λ b. eqb b 9) s)) ∙ length-drop 2 (slice_split (λ b. eqb b 9) s)
+      ∙ ap (λ (fs : List (List ℕ)). length fs - 2) (separated_is 9 s) ∙ ap (λ (n : ℕ). n - 2) h
+
+  -- one turn of the loop: which field it has
+  pub field_in_turn : (i k : ℕ) (t : List ℕ) → i < length (numbered s) → (k, t) ≡ get_or (numbered s) i (k, t) → (i < 42) × (k ≡ i) × (t ≡ field_of s (i + 2))
+  field_in_turn i k t g e =
+      let n = numbered-length in
+      let parts : List (List ℕ) = slice_split (λ b. eqb b 9) s in
+      let m : length (drop 2 parts) ≡ length (numbered s) = sym (length-enumerate_from 0 (drop 2 parts)) in
+      let p : ◌≡◌ {A = ℕ × List ℕ} (k, t) (0 + i, get_or (drop 2 parts) i t) = e ∙ get_or-enumerate_from 0 (drop 2 parts) i (k, t) (omega arith) in
+      let a : k ≡ 0 + i = ap (λ (x : ℕ × List ℕ). x.0) p in
+      let b : 2 + i ≡ i + 2 = omega arith in
+      let c : i < 42 = omega (arith, g, n) in
+      let q : k ≡ i = omega (arith, a) in (
+        c,
+        q,
+        ap (λ (x : ℕ × List ℕ). x.1) p ∙ get_or-same (drop 2 parts) i t [] (omega arith) ∙ get_or-drop 2 parts i []
+            ∙ ap (λ (fs : List (List ℕ)). get_or fs (2 + i) []) (separated_is 9 s) ∙ ap (λ (j : ℕ). field_of s j) b,
+      )
+    where
+      get_or-same : (l : List (List ℕ)) (j : ℕ) (x y : List ℕ) → j < length l → get_or l j x ≡ get_or l j y
+      get_or-same [] j x y h = absurd (omega arith)
+      get_or-same (z ∷ l) zero x y h = refl
+      get_or-same (z ∷ l) (suc j) x y h = get_or-same l j x y (omega arith)
 
 -- ---- what the loop gives
 
@@ -127,29 +159,29 @@ unfolding answer_restored
 refused-by zero r h = absurd (h refl)
 refused-by (suc n) r h = refl
 
-module _ (n : Number) (l : ℕ) (f : Fields) where
+module _ (n : Option ℕ) (l : ℕ) (f : Fields) where
   -- the number of the refusal, where the next number was read
   abbrev coded : ℕ
   coded = refusal true ((eqb l 69 || eqb l 81) && f.good) f.tame 0 true true
 
   -- no refusal: the record
-  pub answer-record : (v : ℕ) {no : ℕ} → n ≡ Got v → no ≡ coded → no ≡ 0
+  pub answer-record : (v : ℕ) {no : ℕ} → n ≡ Some v → no ≡ coded → no ≡ 0
       → ◌≡◌ {A = Restored} (record { code = 0; rec = record { energies = f.e; next = v } }) (answer_restored (refusal_fields n l f) (record_of_fields n f))
   unfolding answer_restored
   answer-record v p q z = let e : coded ≡ 0 = sym q ∙ z in rw (p, e)
 
   -- a refusal of a line whose next number was read
-  pub answer-refused : (v : ℕ) {no : ℕ} {y : Restored} → n ≡ Got v → no ≡ coded → (no ≡ 0 → ⊥) → y ≡ refused_as no
+  pub answer-refused : (v : ℕ) {no : ℕ} {y : Restored} → n ≡ Some v → no ≡ coded → (no ≡ 0 → ⊥) → y ≡ refused_as no
       → y ≡ answer_restored (refusal_fields n l f) (record_of_fields n f)
   answer-refused v p q z e = rw (p, sym q) (e ∙ refused-by _ _ z)
 
   -- a next number that was not read is 1
-  pub answer_bad : {y : Restored} → n ≡ Bad → y ≡ refused_as 1 → y ≡ answer_restored (refusal_fields n l f) (record_of_fields n f)
+  pub answer_bad : {y : Restored} → n ≡ None → y ≡ refused_as 1 → y ≡ answer_restored (refusal_fields n l f) (record_of_fields n f)
   unfolding refusal answer_restored
   answer_bad p e = rw p e
 
 -- a line of 44 fields answers by its next number, its letter and its energies
-pub line-answers : (s : List ℕ) {n : Number} {l : ℕ} {f : Fields} {r : Restored} → length (fields_of s) ≡ 44 → n ≡ next_read s → l ≡ letter s
+pub line-answers : (s : List ℕ) {n : Option ℕ} {l : ℕ} {f : Fields} {r : Restored} → length (fields_of s) ≡ 44 → n ≡ next_read s → l ≡ letter s
     → f ≡ read_from none_read 0 (said s l) → r ≡ answer_restored (refusal_fields n l f) (record_of_fields n f) → r ≡ restoring s
 unfolding well_formed refusal_line
 line-answers s {n} {l} {f} {r} h p q e a = rw (a, read-line s l h e, p, q, eq-eqb (length (fields_of s)) 44 h)

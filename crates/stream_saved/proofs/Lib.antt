@@ -1,9 +1,9 @@
 pub mod Exact
 pub mod Energies
 pub mod Placed
-pub mod Said
 pub mod Round
 pub mod Sound
 pub mod Short
 pub mod NoRecord
 pub mod Across
+pub mod Said

@@ -1,4 +1,5 @@
 -- A line that was saved is restored. Assumes nothing.
+use Rattle.std.specs.Prelude.{Some}
 use Prim.Native.Nat.{ℕ, suc}
 use mathlib.Core.Path.{◌≡◌, refl, ap, ◌∙◌}
 use mathlib.Core.Bool.{Bool, true, and-eq-true_iff}
@@ -15,16 +16,14 @@ use Rattle.entcode.specs.Refusal.{refusal}
 use Rattle.text.specs.Fields.{fields_of, no_tab}
 use Rattle.text.specs.Numbers.{number_of}
 use Rattle.text.specs.Written.{decimal_of}
-use Rattle.text.specs.declared.Number.TheVariants.{Got}
 use Rattle.text.proofs.Back.{decimal_back, decimal_no_tab, word_back, word_no_tab}
 use Rattle.text.proofs.FieldLaws.{fields_made}
 use Rattle.stream.specs.declared.Record.{Record}
 use Rattle.stream.specs.Frame.{framed}
 use Rattle.stream.specs.History.{finite32}
 use Rattle.stream_saved.specs.declared.Energy.TheVariants.{Is}
-use Rattle.stream_saved.specs.declared.Restored.{Restored}
 use Rattle.stream_saved.specs.Fields.{energy_text, hex_energy, letter_of, energy_of, not_wrong, not_wild, float_of}
-use Rattle.stream_saved.specs.Lines.{saved_line, letter, next_read, energies_read, well_formed, refusal_line, answer_restored, restoring}
+use Rattle.stream_saved.specs.Lines.{saved_line, letter, next_read, energies_read, well_formed, refusal_line, Restored, answer_restored, restoring}
 use Rattle.stream_saved.specs.Back.{RestoredAsSaved, AnswersAsSaved}
 
 -- ---- a field
@@ -86,7 +85,7 @@ fields_are r = fields_made (69 ∷ []) (decimal_of r.next ∷ map energy_text r.
         (decimal_no_tab r.next, no_tabs r.energies)
 
 -- a line by its parts
-by_parts : (s : List ℕ) (n : ℕ) (l : List Float) → length (fields_of s) ≡ 44 → letter s ≡ 69 → next_read s ≡ Got n → energies_read s ≡ map Is l
+by_parts : (s : List ℕ) (n : ℕ) (l : List Float) → length (fields_of s) ≡ 44 → letter s ≡ 69 → next_read s ≡ Some n → energies_read s ≡ map Is l
     → ◌≡◌ {A = Restored} (restoring s) (record { code = 0; rec = record { energies = l; next = n } })
 unfolding well_formed refusal_line refusal answer_restored
 by_parts s n l h p q e = rw (e, q, p, eq-eqb (length (fields_of s)) 44 h, all_good l, all_tame l, all_values l)

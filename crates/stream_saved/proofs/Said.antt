@@ -1,23 +1,14 @@
--- The enum of saving, from what it says: two that say the same are one. Assumes nothing.
-use Prim.Native.Nat.{ℕ}
-use mathlib.Core.Path.{◌≡◌, refl}
-use Rattle.entcode.specs.Said.Said.{done, refused}
-use Rattle.entcode.specs.Said.{Said}
-use Rattle.entcode.proofs.Said.{alike}
-use Rattle.stream_saved.specs.declared.Saved.{Saved}
-use Rattle.stream_saved.specs.declared.Saved.TheVariants.{Done, Refused}
-use Rattle.stream_saved.specs.Lines.{said}
+-- Two answers of restoring that say the same are one. Assumes nothing.
+use Rattle.std.specs.Prelude.{Result}
+use mathlib.Core.Path.{◌≡◌, ap, ap₂}
+use Rattle.entcode.specs.declared.reasons.Refusal.{Refusal}
+use Rattle.entcode.proofs.Said.{verdict_same}
+use Rattle.stream.specs.declared.Record.{Record}
+use Rattle.stream_saved.specs.declared.Restored.{Restored as Answer}
+use Rattle.stream_saved.specs.Lines.{Restored, said_restored}
 
--- the answer that says this
-abbrev pub back : Said ℕ → Saved
-back (done y) = Done y
-back (refused n) = Refused n
-
--- what an answer says gives the answer
-pub said_back : (r : Saved) → back (said r) ≡ r
-said_back (Done y) = refl
-said_back (Refused n) = refl
-
--- two that say the same are one
-pub said_same : {a b : Saved} → said a ≡ said b → a ≡ b
-said_same e = alike said back said_back e
+-- by the number of the refusal, and the record
+pub said_restored_same : {a b : Answer} → said_restored a ≡ said_restored b → a ≡ b
+said_restored_same e =
+    ap₂ (λ (k : Result (Unit {0}) Refusal) (r : Record). record { answer = k; rec = r }) (verdict_same (ap (λ (x : Restored). x.code) e))
+    (ap (λ (x : Restored). x.rec) e)

@@ -1,4 +1,5 @@
 -- A well_formed_lem line has at most 390 bytes: a letter, 10 figures, 42 fields of 8 bytes at most, and 43 tabs. Assumes nothing.
+use Rattle.std.specs.Prelude.{ℤ, Option, Some, None}
 use Prim.Native.Nat.{ℕ, suc, ◌-◌, ◌*◌, ◌≤◌}
 use mathlib.Core.Path.{◌≡◌, refl}
 use mathlib.Core.Bool.{Bool, true, false, cond, ◌||◌, and-eq-true_iff, false≢true}
@@ -15,10 +16,6 @@ use Rattle.laws.proofs.Tests.{cond-by, split_on}
 use Rattle.entcode.specs.Refusal.{refusal}
 use Rattle.text.specs.Fields.{fields_of, field_of}
 use Rattle.text.specs.Numbers.{AtMost, digits_of, number_of, plus, minus, whole_of, kept_in}
-use Rattle.text.specs.declared.Number.{Number}
-use Rattle.text.specs.declared.Number.TheVariants.{Got, Bad}
-use Rattle.text.specs.declared.Whole.{Whole}
-use Rattle.text.specs.declared.Whole.TheVariants as whole
 use Rattle.text.proofs.Values.{number-most}
 use Rattle.text.proofs.Lengths.{FewFigures, number-figures, fields_length, line-length, two-fields-length}
 use Rattle.stream_saved.specs.Fields.{of_word, of_whole, letter_of, hex_energy, whole_energy, energy_of, not_wrong}
@@ -37,40 +34,40 @@ letter-short f e = go (eqb (length f) 1) refl e
     go false p e = absurd (false≢true e)
 
 -- the next number has 10 figures at most
-number_short : (n : Number) (m : ℕ) → AtMost 4294967295 n → FewFigures m n → is_number n ≡ true → m ≤ 10
-number_short (Got v) m h f e = f 10 (omega arith) (omega arith)
-number_short Bad m h f e = absurd (false≢true e)
+number_short : (n : Option ℕ) (m : ℕ) → AtMost 4294967295 n → FewFigures m n → is_number n ≡ true → m ≤ 10
+number_short (Some v) m h f e = f 10 (omega arith) (omega arith)
+number_short None m h f e = absurd (false≢true e)
 
 -- a word has 8 digits
 word-short : (f : List ℕ) → not_wrong (hex_energy f) ≡ true → length f ≤ 8
 word-short f e = go (eqb (length f) 8) refl e
   where
-    go : (t : Bool) → eqb (length f) 8 ≡ t → not_wrong (of_word (cond t (digits_of 16 4294967295 f) Bad)) ≡ true → length f ≤ 8
+    go : (t : Bool) → eqb (length f) 8 ≡ t → not_wrong (of_word (cond t (digits_of 16 4294967295 f) None)) ≡ true → length f ≤ 8
     go true p e = let z = eqb-true (length f) 8 p in omega arith
     go false p e = absurd (false≢true e)
 
 -- a whole number at most 32,768 from 0 that n bytes write: 5 figures and a sign
-abbrev Short : ℕ → Whole → Type 0
-Short n (whole.Is z) = nat_abs z ≤ 32768 → n ≤ 6
-Short n whole.Wrong = Unit {0}
+abbrev Short : ℕ → Option ℤ → Type 0
+Short n (Some z) = nat_abs z ≤ 32768 → n ≤ 6
+Short n None = Unit {0}
 
 -- fewer bytes too
-short_of_fewer : (n m : ℕ) (w : Whole) → n ≤ m → Short m w → Short n w
-short_of_fewer n m (whole.Is z) l h = λ g. let k = h g in omega arith
-short_of_fewer n m whole.Wrong l h = tt
+short_of_fewer : (n m : ℕ) (w : Option ℤ) → n ≤ m → Short m w → Short n w
+short_of_fewer n m (Some z) l h = λ g. let k = h g in omega arith
+short_of_fewer n m None l h = tt
 
 -- 5 figures without a sign
-plus-short : (n : Number) (m : ℕ) → FewFigures m n → Short m (plus n)
-plus-short (Got v) m f = λ h. let g = f 5 (omega arith) (omega arith) in omega arith
-plus-short Bad m f = tt
+plus-short : (n : Option ℕ) (m : ℕ) → FewFigures m n → Short m (plus n)
+plus-short (Some v) m f = λ h. let g = f 5 (omega arith) (omega arith) in omega arith
+plus-short None m f = tt
 
 -- 5 figures after a minus
-minus-short : (n : Number) (m : ℕ) → FewFigures m n → Short (suc m) (minus n)
-minus-short (Got v) m f = cond-by (Short (suc m)) (eqb v 0) (λ e. tt) (λ e. signed)
+minus-short : (n : Option ℕ) (m : ℕ) → FewFigures m n → Short (suc m) (minus n)
+minus-short (Some v) m f = cond-by (Short (suc m)) (eqb v 0) (λ e. tt) (λ e. signed)
   where
     signed : nat_abs (with_sign true v) ≤ 32768 → suc m ≤ 6
     signed h = let z = size-value true v in let g = f 5 (omega arith) (omega arith) in omega arith
-minus-short Bad m f = tt
+minus-short None m f = tt
 
 -- by the first byte
 whole-short : (s : List ℕ) → Short (length s) (whole_of s)
@@ -83,13 +80,13 @@ whole-short s =
     (λ e. plus-short (number_of 2147483647 s) (length s) (number-figures 2147483647 s))
 
 -- a number outside the range of a Q field is wrong
-kept-short : (w : Whole) (m : ℕ) → Short m w → not_wrong (of_whole (kept_in (negsuc 32767) (pos 32767) w)) ≡ true → m ≤ 8
-kept-short (whole.Is z) m h e = go (in_range (negsuc 32767) (pos 32767) z) refl e
+kept-short : (w : Option ℤ) (m : ℕ) → Short m w → not_wrong (of_whole (kept_in (negsuc 32767) (pos 32767) w)) ≡ true → m ≤ 8
+kept-short (Some z) m h e = go (in_range (negsuc 32767) (pos 32767) z) refl e
   where
-    go : (t : Bool) → in_range (negsuc 32767) (pos 32767) z ≡ t → not_wrong (of_whole (cond t (whole.Is z) whole.Wrong)) ≡ true → m ≤ 8
+    go : (t : Bool) → in_range (negsuc 32767) (pos 32767) z ≡ t → not_wrong (of_whole (cond t (Some z) None)) ≡ true → m ≤ 8
     go true p e = let g = h (size-most z p) in omega arith
     go false p e = absurd (false≢true e)
-kept-short whole.Wrong m h e = absurd (false≢true e)
+kept-short None m h e = absurd (false≢true e)
 
 -- a field of either kind
 energy-short : (l : ℕ) (f : List ℕ) → not_wrong (energy_of l f) ≡ true → length f ≤ 8

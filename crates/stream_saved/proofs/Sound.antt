@@ -1,4 +1,5 @@
 -- A record restored from an accepted line is usable, whatever the line. Assumes nothing.
+use Rattle.std.specs.Prelude.{Option, Some, None}
 use Prim.Native.Nat.{ℕ, zero, suc, ◌≤◌}
 use mathlib.Core.Path.{◌≡◌, refl, sym, ◌∙◌}
 use mathlib.Core.Bool.{Bool, true, and-eq-true_iff}
@@ -19,10 +20,6 @@ use Rattle.laws.proofs.Tests.{cond-by}
 use Rattle.entcode.proofs.Refusals.{passed}
 use Rattle.text.specs.Fields.{fields_of, field_of}
 use Rattle.text.specs.Numbers.{AtMost, word_of, whole_of, whole_in}
-use Rattle.text.specs.declared.Number.{Number}
-use Rattle.text.specs.declared.Number.TheVariants.{Got, Bad}
-use Rattle.text.specs.declared.Whole.{Whole}
-use Rattle.text.specs.declared.Whole.TheVariants as whole
 use Rattle.text.proofs.Values.{number-most}
 use Rattle.stream.specs.declared.Record.{Record}
 use Rattle.stream.specs.History.{finite32, Usable}
@@ -53,17 +50,17 @@ both : (x : Float) → T (fits binary32 x) → finite x ≡ true → finite32 x 
 both x f e = (and-eq-true_iff (fits binary32 x) (finite x)).1 (is_true _ f, e)
 
 -- of an E field
-word-fine : (n : Number) → Fine (of_word n)
-word-fine (Got b) = cond-by Fine (finite (of_bits binary32 b)) (λ e. both (of_bits binary32 b) (of_bits-fits binary32 b) e) (λ e. tt)
-word-fine Bad = tt
+word-fine : (n : Option ℕ) → Fine (of_word n)
+word-fine (Some b) = cond-by Fine (finite (of_bits binary32 b)) (λ e. both (of_bits binary32 b) (of_bits-fits binary32 b) e) (λ e. tt)
+word-fine None = tt
 
 -- of a Q field
-whole-fine : (w : Whole) → Small w → Fine (of_whole w)
-whole-fine (whole.Is z) h = both (in256ths z) (fits_256ths z) (valued (in256ths z) (is_neg z) (nat_abs z) 256 (in_256ths-exact z h))
+whole-fine : (w : Option ℤ) → Small w → Fine (of_whole w)
+whole-fine (Some z) h = both (in256ths z) (fits_256ths z) (valued (in256ths z) (is_neg z) (nat_abs z) 256 (in_256ths-exact z h))
   where
     fits_256ths : (z : ℤ) → T (fits binary32 (in256ths z))
     fits_256ths z = unfold in256ths in round-fits binary32 (is_neg z) (nat_abs z) 256
-whole-fine whole.Wrong h = tt
+whole-fine None h = tt
 
 -- of either
 energy-fine : (l : ℕ) (f : List ℕ) → Fine (energy_of l f)
@@ -86,9 +83,9 @@ values_fine l (f ∷ fs) =
 -- ---- the record
 
 -- a next number that was read is in its domain
-number_small : (n : Number) → AtMost 4294967295 n → the_number n ≤ 4294967295
-number_small (Got v) h = h
-number_small Bad h = omega arith
+number_small : (n : Option ℕ) → AtMost 4294967295 n → the_number n ≤ 4294967295
+number_small (Some v) h = h
+number_small None h = omega arith
 
 -- a line that is not refused has 44 fields
 sized : (s : List ℕ) → refusal_line s ≡ 0 → length (fields_of s) ≡ 44

@@ -1,4 +1,5 @@
 -- The fields of a saved record's line. Document 01, "Energies, shapes and the stream record".
+use Rattle.std.specs.Prelude.{Option, Some, None}
 use Rattle.std.specs.Prelude.{ℕ, ◌≤◌, Bool, true, false, cond, List, eqb, ℤ, pos, negsuc, nat_abs, Float, length, get_or}
 use Rattle.std.specs.Float.{fin, binary32}
 use Rattle.std.specs.Float.Ieee.{of_bits, to_bits, round}
@@ -6,10 +7,6 @@ use Rattle.std.specs.Float.Ieee.Scale.{finite}
 use Rattle.laws.specs.Signs.{is_neg}
 use Rattle.text.specs.Numbers.{word_of, whole_in}
 use Rattle.text.specs.Written.{hex_word_of}
-use Rattle.text.specs.declared.Number.{Number}
-use Rattle.text.specs.declared.Number.TheVariants.{Got, Bad}
-use Rattle.text.specs.declared.Whole.{Whole}
-use Rattle.text.specs.declared.Whole.TheVariants as whole
 use Rattle.stream_saved.specs.declared.Energy.{Energy}
 use Rattle.stream_saved.specs.declared.Energy.TheVariants.{Is, Wild, Wrong}
 
@@ -26,9 +23,9 @@ abbrev pub finite_only : Float → Energy
 finite_only x = cond (finite x) (Is x) Wild
 
 -- by the word that was read
-abbrev pub of_word : Number → Energy
-of_word (Got b) = finite_only (of_bits binary32 b)
-of_word Bad = Wrong
+abbrev pub of_word : Option ℕ → Energy
+of_word (Some b) = finite_only (of_bits binary32 b)
+of_word None = Wrong
 
 -- a field of an E line: eight lowercase hex digits, the bits of a finite f32
 abbrev pub hex_energy : List ℕ → Energy
@@ -39,14 +36,14 @@ unfoldable pub in256ths : ℤ → Float
 in256ths z = round binary32 (is_neg z) (nat_abs z) 256
 
 -- a number that was read is at most 32,768 from 0
-abbrev pub Small : Whole → Type 0
-Small (whole.Is z) = nat_abs z ≤ 32768
-Small whole.Wrong = Unit {0}
+abbrev pub Small : Option ℤ → Type 0
+Small (Some z) = nat_abs z ≤ 32768
+Small None = Unit {0}
 
 -- by the number that was read
-abbrev pub of_whole : Whole → Energy
-of_whole (whole.Is z) = Is (in256ths z)
-of_whole whole.Wrong = Wrong
+abbrev pub of_whole : Option ℤ → Energy
+of_whole (Some z) = Is (in256ths z)
+of_whole None = Wrong
 
 -- a field of a Q line: a whole number -32,768..32,767
 abbrev pub whole_energy : List ℕ → Energy

@@ -1,21 +1,17 @@
 -- Saving a record as a line of text, and restoring one. Document 01, "Energies, shapes and the stream record".
-use Rattle.std.specs.Prelude.{ℕ, zero, suc, Bool, true, false, ◌&&◌, ◌||◌, List, ◌∷◌, map, leb, eqb, length, drop}
+use Rattle.std.specs.Prelude.{ℕ, zero, suc, Bool, true, false, ◌&&◌, ◌||◌, List, ◌∷◌, map, leb, eqb, length, drop, Option, Some, None, Result}
+use Rattle.entcode.specs.declared.reasons.Refusal.{Refusal}
 use Rattle.std.specs.Float.Ieee.Scale.{finite}
 use Rattle.std.proofs.lemmas.List.Edits.{sets}
 use Rattle.laws.specs.Lists.{every}
 use Rattle.entcode.specs.Refusal.{refusal}
-use Rattle.entcode.specs.Said.{Said, answer, lent_after}
-use Rattle.entcode.specs.Said.Said.{done, refused}
+use Rattle.entcode.specs.Said.{Said, answer, lent_after, said, verdict}
 use Rattle.text.specs.Fields.{fields_of, field_of, tabbed}
 use Rattle.text.specs.Numbers.{number_of}
 use Rattle.text.specs.Written.{decimal_of}
-use Rattle.text.specs.declared.Number.{Number}
-use Rattle.text.specs.declared.Number.TheVariants.{Got, Bad}
 use Rattle.stream.specs.declared.Record.{Record}
 use Rattle.stream.specs.Frame.{fresh}
-use Rattle.stream_saved.specs.declared.Saved.{Saved}
-use Rattle.stream_saved.specs.declared.Saved.TheVariants as saved
-use Rattle.stream_saved.specs.declared.Restored.{Restored}
+use Rattle.stream_saved.specs.declared.Restored.{Restored as Answer}
 use Rattle.stream_saved.specs.declared.Energy.{Energy}
 use Rattle.stream_saved.specs.Fields.{energy_text, energy_of, letter_of, not_wrong, not_wild, float_of}
 
@@ -30,18 +26,13 @@ saved_line r = 69 ∷ tabbed (decimal_of r.next ∷ map energy_text r.energies)
 unfoldable pub refusal_save : ℕ → Record → ℕ
 refusal_save n r = refusal (leb 390 n) (leb r.next 4294967295) (every finite r.energies) 0 true true
 
--- what an answer of saving says
-abbrev pub said : Saved → Said ℕ
-said (saved.Done n) = done n
-said (saved.Refused n) = refused n
-
 -- what is said, and the lent bytes after the call
 pub record After : Type 0 where
   pub said : Said ℕ
   pub bytes : List ℕ
 
 -- both together
-abbrev pub after : Saved → List ℕ → After
+abbrev pub after : Result ℕ Refusal → List ℕ → After
 after a b = record { said = said a; bytes = b }
 
 -- number 0: the line stands at the front, and its length is answered; any other: that refusal, and the bytes as they were
@@ -55,14 +46,14 @@ saving r buf = answer_saved (refusal_save (length buf) r) (saved_line r) buf
 -- ---- restoring
 
 -- a number was read
-abbrev pub is_number : Number → Bool
-is_number (Got v) = true
-is_number Bad = false
+abbrev pub is_number : Option ℕ → Bool
+is_number (Some v) = true
+is_number None = false
 
 -- which one; 0 where there is none
-abbrev pub the_number : Number → ℕ
-the_number (Got v) = v
-the_number Bad = 0
+abbrev pub the_number : Option ℕ → ℕ
+the_number (Some v) = v
+the_number None = 0
 
 module _ (s : List ℕ) where
   -- the letter: E is 69, Q is 81
@@ -70,7 +61,7 @@ module _ (s : List ℕ) where
   letter = letter_of (field_of s 0)
 
   -- the next number, 0..4,294,967,295
-  abbrev pub next_read : Number
+  abbrev pub next_read : Option ℕ
   next_read = number_of 4294967295 (field_of s 1)
 
   -- what the fields after it say
@@ -92,6 +83,15 @@ module _ (s : List ℕ) where
 -- the record beside a refusal: its next number is outside the domain, so that every call refuses it (specs/Back.antt)
 unfoldable pub no_record : Record
 no_record = record { energies = fresh.energies; next = 4294967296 }
+
+-- what restoring comes to: code 0 and the record, or the number of the refusal and that record
+pub record Restored : Type 0 where
+  pub code : ℕ
+  pub rec : Record
+
+-- of an answer
+abbrev pub said_restored : Answer → Restored
+said_restored y = record { code = verdict y.answer; rec = y.rec }
 
 -- a refusal
 abbrev pub refused_as : ℕ → Restored

@@ -1,7 +1,7 @@
 -- The 42 energies of a line, field by field, and what they give with the line's next number and letter.
+use Rattle.std.specs.Prelude.{Option}
 use Rattle.std.specs.Prelude.{ℕ, suc, true, ◌&&◌, ◌||◌, List, [], ◌∷◌, eqb, set}
 use Rattle.entcode.specs.Refusal.{refusal}
-use Rattle.text.specs.declared.Number.{Number}
 use Rattle.stream.specs.declared.Record.{Record}
 use Rattle.stream.specs.Frame.{fresh}
 use Rattle.stream_saved.specs.declared.Energy.{Energy}
@@ -23,9 +23,9 @@ read_from f k [] = f
 read_from f k (v ∷ vs) = read_from (read_field f k v) (suc k) vs
 
 -- the number of the refusal, 0 for none, of a line of 44 fields
-abbrev pub refusal_fields : Number → ℕ → Fields → ℕ
+abbrev pub refusal_fields : Option ℕ → ℕ → Fields → ℕ
 refusal_fields n letter f = refusal true (is_number n && ((eqb letter 69 || eqb letter 81) && f.good)) f.tame 0 true true
 
 -- the record of their energies
-abbrev pub record_of_fields : Number → Fields → Record
+abbrev pub record_of_fields : Option ℕ → Fields → Record
 record_of_fields n f = record { energies = f.e; next = the_number n }

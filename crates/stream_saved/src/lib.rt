@@ -4,8 +4,9 @@
 #![tactic(auto)]
 
 ghost use Rattle.std.specs.Prelude.{◌≡◌};
-ghost use Rattle.stream_saved.specs.Lines.{after, saving, restoring};
+ghost use Rattle.stream_saved.specs.Lines.{after, saving, restoring, said_restored};
 
+use entcode::Refusal;
 use stream::Record;
 
 pub mod gate;
@@ -20,7 +21,8 @@ pub enum Energy {
     Wrong,
 }
 
-// What the fields of a line say so far: whether none is wrong, whether none is wild, and the energies.
+// What the fields of a line say so far: whether none is wrong, whether none is wild, and the energies. Both marks are kept to the end: a line with a
+// field that is not finite and a wrong one behind it is malformed (`refusal_line`).
 #[derive(Clone, Copy)]
 pub struct Fields {
     pub good: bool,
@@ -28,45 +30,34 @@ pub struct Fields {
     pub e: [f32; 42],
 }
 
-// What saving answers: the line's length, or the number of the refusal.
-#[derive(Clone, Copy)]
-pub enum Saved {
-    Done(usize),
-    Refused(u32),
-}
-
-// What restoring answers: code 0 and the record, or the number of the refusal and a record that every call refuses.
+// What restoring answers, and the record. No Result: theorems promise of a refused line too which record is handed back, one that every call refuses
+// (specs/Back.antt, RefusedGivesNoRecord).
 #[derive(Clone, Copy)]
 pub struct Restored {
-    pub code: u32,
+    pub answer: Result<(), Refusal>,
     pub rec: Record,
 }
 
 // Writes a record's line, without a line feed, to the front of a buffer of at least 390 bytes. Refused as 2 (the buffer), 1 (the next number)
 // and 3 (an energy).
-pub fn save(rec: Record, buf: &mut [u8]) -> Saved
+pub fn save(rec: Record, buf: &mut [u8]) -> Result<usize, Refusal>
     ensures { after result buf.new ≡ saving rec buf.old }
 {
-    let no = gate::refusal_save(rec, buf.len());
-    if no == 0 {
-        let n = writes::line(rec, buf);
-        Saved::Done(n)
-    } else {
-        Saved::Refused(no)
-    }
+    gate::refusal_save(rec, buf.len())?;
+    Ok(writes::line(rec, buf))
 }
 
 // The record that a line, without its line feed, stands for. Refused as 1 (malformed) and 3 (an energy of an E line that is not finite). No
 // line of more than 390 bytes is well formed: a longer one is refused by its length alone.
 pub fn restore(s: &[u8]) -> Restored
-    ensures { result ≡ restoring s.now }
+    ensures { said_restored result ≡ restoring s.now }
 {
     if 390 < s.len() {
-        return reads::refused(1);
+        return reads::refused(Refusal::Number);
     }
     if text::fields::count(s) == 44 {
         reads::line(s)
     } else {
-        reads::refused(1)
+        reads::refused(Refusal::Number)
     }
 }

@@ -2,14 +2,17 @@
 ghost use Rattle.std.specs.Prelude.{◌≡◌, map, ◌<◌, ◌≤◌, nat_abs, length, drop};
 ghost use Rattle.std.specs.Float.Ieee.{of_bits};
 ghost use Rattle.std.specs.Float.{binary32};
-ghost use Rattle.text.specs.Fields.{fields_of, field_of};
+ghost use Rattle.entcode.specs.Refusal.{number_of};
+ghost use Rattle.text.specs.Fields.{fields_of};
 ghost use Rattle.stream_saved.specs.Fields.{finite_only, of_word, in256ths, of_whole, Small, letter_of, energy_of};
-ghost use Rattle.stream_saved.specs.Lines.{letter, refused_as, answer_restored, restoring};
+ghost use Rattle.stream_saved.specs.Lines.{letter, refused_as, answer_restored, restoring, said_restored};
 ghost use Rattle.stream_saved.specs.Loop.{none_read, read_field, read_from, refusal_fields, record_of_fields};
 
 use super::{Energy, Fields, Restored};
+use entcode::Refusal;
 use stream::Record;
-use text::{Number, Whole, read};
+use text::fields::field;
+use text::read;
 
 // The f32 of a bit pattern, if it is finite.
 fn finite_of(b: u32) -> Energy
@@ -19,19 +22,19 @@ fn finite_of(b: u32) -> Energy
         return Energy::Wild;
     }
     let x = f32::from_bits(b);
-    if laws::is_finite(x) {
+    if x.is_finite() {
         return Energy::Is(x);
     }
     Energy::Wild
 }
 
 // What eight hex digits say.
-fn of_word(n: Number) -> Energy
+fn of_word(n: Option<u32>) -> Energy
     ensures { result ≡ of_word n }
 {
     match n {
-        Number::Got(b) => finite_of(b),
-        Number::Bad => Energy::Wrong,
+        Some(b) => finite_of(b),
+        None => Energy::Wrong,
     }
 }
 
@@ -44,148 +47,128 @@ fn in_256ths(z: i32) -> f32
 }
 
 // What a whole number of 256ths says.
-fn of_whole(n: Whole) -> Energy
+fn of_whole(n: Option<i32>) -> Energy
     requires { Small n }
     ensures { result ≡ of_whole n }
 {
     match n {
-        Whole::Is(z) => Energy::Is(in_256ths(z)),
-        Whole::Wrong => Energy::Wrong,
+        Some(z) => Energy::Is(in_256ths(z)),
+        None => Energy::Wrong,
     }
 }
 
-// What field n of a line with this letter says.
-fn energy_at(letter: u8, s: &[u8], n: usize) -> Energy
-    ensures { result ≡ energy_of letter (field_of s.now n) }
+// What a field of a line with this letter says.
+fn energy_of(letter: u8, field: &[u8]) -> Energy
+    ensures { result ≡ energy_of letter field.now }
 {
-    if letter == 69 {
-        return of_word(read::word_at(s, n));
+    if letter == b'E' {
+        of_word(read::word(field))
+    } else {
+        of_whole(read::signed_in(field, -32768, 32767))
     }
-    of_whole(read::signed_in_at(s, n, -32768, 32767))
 }
 
 // Nothing read yet.
 fn none_read() -> Fields
     ensures { result ≡ none_read }
 {
-    let fresh = Record::fresh();
-    let e = fresh.energies;
+    let Record { energies, .. } = Record::fresh();
     Fields {
         good: true,
         tame: true,
-        e,
+        e: energies,
     }
 }
 
 // What field k of the energies says, put to the others.
-fn read_one(f: Fields, k: usize, v: Energy) -> Fields
+fn read_one(mut f: Fields, k: usize, v: Energy) -> Fields
     requires { k < 42 }
     ensures { result ≡ read_field f k v }
 {
-    let mut e = f.e;
     match v {
-        Energy::Is(x) => {
-            e[k] = x;
-            Fields {
-                good: f.good,
-                tame: f.tame,
-                e,
-            }
-        }
+        Energy::Is(x) => f.e[k] = x,
         Energy::Wild => {
-            e[k] = 0.0;
-            Fields {
-                good: f.good,
-                tame: false,
-                e,
-            }
+            f.e[k] = 0.0;
+            f.tame = false;
         }
         Energy::Wrong => {
-            e[k] = 0.0;
-            Fields {
-                good: false,
-                tame: f.tame,
-                e,
-            }
+            f.e[k] = 0.0;
+            f.good = false;
         }
     }
+    f
 }
 
-// The 42 energies of a line.
+// The 42 energies of a line, whose fields are gone through once.
 fn energies(letter: u8, s: &[u8]) -> Fields
     requires { length (fields_of s.now) ≡ 44 }
     ensures { result ≡ read_from none_read 0 (map (energy_of letter) (drop 2 (fields_of s.now))) }
 {
     let mut f = none_read();
-    let mut k: usize = 0;
-    while k < 42 {
-        let v = energy_at(letter, s, k + 2);
-        f = read_one(f, k, v);
-        k += 1;
+    for (k, field) in s.split(|b| *b == b'\t').skip(2).enumerate() {
+        f = read_one(f, k, energy_of(letter, field));
     }
     f
 }
 
-// The letter of a field, 0 where it is no single byte.
+// The letter of a field, 0 where it is no single byte: `letter_of` says so, and of the letters only two are known.
 fn letter_of(s: &[u8]) -> u8
     ensures { result ≡ letter_of s.now }
 {
-    if s.len() == 1 { s[0] } else { 0 }
+    match s {
+        [letter] => *letter,
+        _ => 0,
+    }
 }
 
 // The line's letter.
 fn letter_at(s: &[u8]) -> u8
     ensures { result ≡ letter s.now }
 {
-    let p = text::fields::field(s, 0);
-    let start = p.start;
-    let end = p.end;
-    letter_of(&s[start..end])
+    letter_of(field(s, 0))
 }
 
-// A refusal, and a record that every call refuses, so that a caller who overlooks the code applies nothing.
-pub fn refused(no: u32) -> Restored
-    ensures { result ≡ refused_as no }
+// A refusal, and a record that every call refuses, so that a caller who overlooks the refusal applies nothing.
+pub fn refused(why: Refusal) -> Restored
+    ensures { said_restored result ≡ refused_as (number_of why) }
 {
-    let fresh = Record::fresh();
-    let e = fresh.energies;
+    let Record { energies, .. } = Record::fresh();
     Restored {
-        code: no,
+        answer: Err(why),
         rec: Record {
-            energies: e,
+            energies,
             next: 4294967296,
         },
     }
 }
 
 // What a line of this next number, letter and energies answers.
-fn answer(n: Number, letter: u8, f: Fields) -> Restored
-    ensures { result ≡ answer_restored (refusal_fields n letter f) (record_of_fields n f) }
+fn answer(n: Option<u32>, letter: u8, f: Fields) -> Restored
+    ensures { said_restored result ≡ answer_restored (refusal_fields n letter f) (record_of_fields n f) }
 {
-    match n {
-        Number::Got(v) => {
-            let known = (letter == 69) | (letter == 81);
-            let no = entcode::refusal_of(true, known & f.good, f.tame, 0, true, true);
-            if no == 0 {
-                let e = f.e;
-                return Restored {
-                    code: 0,
-                    rec: Record {
-                        energies: e,
-                        next: v as u64,
-                    },
-                };
+    let Some(next) = n else {
+        return refused(Refusal::Number);
+    };
+    let known = (letter == b'E') | (letter == b'Q');
+    match entcode::refusal_of(true, known & f.good, f.tame, Ok(()), true, true) {
+        Ok(()) => {
+            let energies = f.e;
+            Restored {
+                answer: Ok(()),
+                rec: Record {
+                    energies,
+                    next: u64::from(next),
+                },
             }
-            refused(no)
         }
-        Number::Bad => refused(1),
+        Err(why) => refused(why),
     }
 }
 
 // A line of 44 fields.
 pub fn line(s: &[u8]) -> Restored
     requires { length (fields_of s.now) ≡ 44 }
-    ensures { result ≡ restoring s.now }
+    ensures { said_restored result ≡ restoring s.now }
 {
     let letter = letter_at(s);
     let n = read::number_at(s, 1, 4294967295);

@@ -1,4 +1,4 @@
-// A record's line, behind the gate: workers.
+// A record's line, behind the gate: workers. A place goes in and the place after comes out: `PlacedText` is of the whole buffer.
 ghost use Rattle.std.specs.Prelude.{◌≡◌, true, ◌∷◌, map, ◌+◌, ◌≤◌, length};
 ghost use Rattle.std.specs.Float.Ieee.Scale.{finite};
 ghost use Rattle.laws.specs.Lists.{every};
@@ -24,11 +24,8 @@ fn fields(e: &[f32], buf: &mut [u8], at: usize) -> usize
     ensures { PlacedText 378 buf.old at (tabbed (map energy_text e.now)) result buf.new }
 {
     let mut to = at;
-    let mut k: usize = 0;
-    while k < 42 {
-        let x = e[k];
+    for &x in e {
         to = field(x, buf, to);
-        k += 1;
     }
     to
 }
@@ -38,8 +35,7 @@ pub fn line(rec: Record, buf: &mut [u8]) -> usize
     requires { (390 ≤ length buf.old) × (rec.next ≤ 4294967295) × (every finite rec.energies ≡ true) }
     ensures { PlacedText 390 buf.old 0 (saved_line rec) result buf.new }
 {
-    let e = rec.energies;
-    buf[0] = 69;
+    buf[0] = b'E';
     let at = decimal_field(rec.next as u32, buf, 1);
-    fields(&e, buf, at)
+    fields(&rec.energies, buf, at)
 }

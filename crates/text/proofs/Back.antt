@@ -4,14 +4,15 @@ use mathlib.Core.Path.{◌≡◌, refl, sym, ap, ◌∙◌, subst}
 use mathlib.Core.Bool.{Bool, true, false, cond, and-eq-true_iff}
 use mathlib.Core.List.{List, [], ◌∷◌, ◌++◌}
 use mathlib.Core.Logic.{◌⊎◌, inl, inr}
-use native.Mathlib.Nat.{pow-zero, pow-suc, div-lt_iff_lt-mul, div-add-mod', mod-lt}
+use native.Mathlib.Nat.{pow-zero, pow-suc, pow-le-pow_right, div-lt_iff_lt-mul, div-add-mod', mod-lt}
 use native.Mathlib.Omega.{arith}
 use lib.Dec.{ltb, eqb}
 use lib.ListN.{length, get_or, get_or-append}
 use borrow.Author.Tests.{lt-ltb, le-leb, ltb-true, ltb-false, eq-eqb, ne_eqb, eqb-true}
 use Rattle.laws.specs.Lists.{every}
 use Rattle.laws.proofs.Tables.{run, below_at}
-use Rattle.text.specs.declared.Number.TheVariants.{Got}
+use Rattle.laws.proofs.Tests.{by_le}
+use Rattle.std.specs.Prelude.{Some}
 use Rattle.text.specs.Fields.{no_tab}
 use Rattle.text.specs.Digits.{digit_of, all_digits, value_after, glyph_of, last_digits}
 use Rattle.text.specs.Numbers.{digits_of, number_of, word_of}
@@ -118,8 +119,29 @@ figures-count n h =
     more-figures n 1000000000 9 10 (λ k. record { enough = omega arith; least = inr (omega arith, omega arith) })
     (λ b. record { enough = omega arith; least = inr (omega arith, omega arith) })))))))))
 
+-- one more than the logarithm
+pub figures-log : (n k : ℕ) → n < 4294967296 → 10 ^ k ≤ n → n < 10 * 10 ^ k → k + 1 ≡ figures_of n
+figures-log n k h a b = by_le (figures_of n) (k + 1) (λ p. by_le (k + 1) (figures_of n) (λ q. omega arith) (λ q. absurd (few q))) (λ q. absurd (many c.least q))
+  where
+    c : FigureCount n (figures_of n)
+    c = figures-count n h
+
+    few : figures_of n < k + 1 → ⊥
+    few q =
+        let e = c.enough in
+        let w : 10 ^ figures_of n ≤ 10 ^ k = pow-le-pow_right (omega arith) (omega arith) in
+        omega arith
+
+    many : (figures_of n ≡ 1) ⊎ ((1 < figures_of n) × (10 ^ (figures_of n - 1) ≤ n)) → k + 1 < figures_of n → ⊥
+    many (inl e) q = omega arith
+    many (inr p) q =
+        let l = p.1 in
+        let w : 10 ^ suc k ≤ 10 ^ (figures_of n - 1) = pow-le-pow_right (omega arith) (omega arith) in
+        let e : 10 ^ suc k ≡ 10 ^ k * 10 = pow-suc 10 k in
+        omega arith
+
 -- the digits of a decimal are read as its number
-decimal-digits : (most n : ℕ) → n < 4294967296 → n ≤ most → digits_of 10 most (decimal_of n) ≡ Got n
+decimal-digits : (most n : ℕ) → n < 4294967296 → n ≤ most → digits_of 10 most (decimal_of n) ≡ Some n
 decimal-digits most n h l =
     rw (
       all_digits_lem 10 (omega arith) (omega arith) (figures_of n) n,
@@ -129,13 +151,13 @@ decimal-digits most n h l =
     )
 
 -- a decimal that was written is read as its number
-pub decimal_back : (most n : ℕ) → n < 4294967296 → n ≤ most → number_of most (decimal_of n) ≡ Got n
+pub decimal_back : (most n : ℕ) → n < 4294967296 → n ≤ most → number_of most (decimal_of n) ≡ Some n
 decimal_back most n h l = go (figures-count n h).least
   where
     w : length (decimal_of n) ≡ figures_of n
     w = digits-length 10 (figures_of n) n
 
-    go : (figures_of n ≡ 1) ⊎ ((1 < figures_of n) × (10 ^ (figures_of n - 1) ≤ n)) → number_of most (decimal_of n) ≡ Got n
+    go : (figures_of n ≡ 1) ⊎ ((1 < figures_of n) × (10 ^ (figures_of n - 1) ≤ n)) → number_of most (decimal_of n) ≡ Some n
     go (inl e) = sym (number_one most (decimal_of n) (w ∙ e)) ∙ decimal-digits most n h l
     go (inr p) =
         let e : suc (figures_of n - 1) ≡ figures_of n = omega (arith, p.0) in
@@ -153,7 +175,7 @@ decimal_no_tab n = digits_no_tab 10 (omega arith) (omega arith) (decimal_of n) (
 -- ---- hex
 
 -- a word that was written is read as its number
-pub word_back : (n : ℕ) → n < 4294967296 → word_of (hex_word_of n) ≡ Got n
+pub word_back : (n : ℕ) → n < 4294967296 → word_of (hex_word_of n) ≡ Some n
 word_back n h =
     rw (
       eq-eqb (length (hex_word_of n)) 8 (digits-length 16 8 n),

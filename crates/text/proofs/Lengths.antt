@@ -10,8 +10,7 @@ use lib.ListN.{length, get_or, drop}
 use borrow.Author.Tests.{lt-ltb, le-ltb, eq-eqb}
 use Rattle.laws.proofs.Powers.{mul_pow_suc}
 use Rattle.laws.proofs.Tests.{by_le}
-use Rattle.text.specs.declared.Number.{Number}
-use Rattle.text.specs.declared.Number.TheVariants.{Got, Bad}
+use Rattle.std.specs.Prelude.{Option, Some, None}
 use Rattle.text.specs.Fields.{glue, separated, fields_of}
 use Rattle.text.specs.Digits.{digit_of, all_digits, value_after}
 use Rattle.text.specs.Numbers.{got_if, no_needless_zero, number_of}
@@ -94,15 +93,15 @@ figures-few (b ∷ c ∷ s) p q k h g =
     some z = true≢false (sym p ∙ ap not (eq-eqb b 48 (zero-digit b z)))
 
 -- a number of n figures that is below 10^k has at most k of them
-abbrev pub FewFigures : ℕ → Number → Type 0
-FewFigures n (Got v) = (k : ℕ) → 0 < k → v < 10 ^ k → n ≤ k
-FewFigures n Bad = Unit {0}
+abbrev pub FewFigures : ℕ → Option ℕ → Type 0
+FewFigures n (Some v) = (k : ℕ) → 0 < k → v < 10 ^ k → n ≤ k
+FewFigures n None = Unit {0}
 
 -- a decimal that was read has no more figures than its number needs
 pub number-figures : (most : ℕ) (s : List ℕ) → FewFigures (length s) (number_of most s)
 number-figures most s = go (no_needless_zero s) (all_digits 10 s) (leb (value_after 10 0 s) most) refl refl
   where
-    go : (z t u : Bool) → no_needless_zero s ≡ z → all_digits 10 s ≡ t → FewFigures (length s) (cond z (got_if (t && u) (value_after 10 0 s)) Bad)
+    go : (z t u : Bool) → no_needless_zero s ≡ z → all_digits 10 s ≡ t → FewFigures (length s) (cond z (got_if (t && u) (value_after 10 0 s)) None)
     go false t u p q = tt
     go true false u p q = tt
     go true true false p q = tt

@@ -1,7 +1,7 @@
 -- A line as bytes: its fields, separated by tabs, and where each stands. Document 01, "The lister" and "Energies, shapes and the stream record".
 use Rattle.std.specs.Prelude.{ℕ, zero, suc, ◌+◌, ◌-◌, ◌≤◌, min, ◌≡◌, Bool, cond, not, List, [], ◌∷◌, ◌++◌, eqb, length, get_or, drop, take}
 use Rattle.laws.specs.Lists.{every}
-use Rattle.text.specs.declared.Span.{Span}
+use Rattle.text.specs.declared.places.Span.{Span}
 
 -- ---- the fields
 

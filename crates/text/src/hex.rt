@@ -1,7 +1,7 @@
 // Bytes written as two hex digits each.
 ghost use Rattle.std.specs.Prelude.{◌≡◌, true, ◌+◌, ◌*◌, ◌≤◌, ◌<◌, length};
 ghost use Rattle.std.proofs.lemmas.List.Edits.{sets};
-ghost use Rattle.text.specs.Digits.{all_digits};
+ghost use Rattle.text.specs.Digits.{digit_of, all_digits};
 ghost use Rattle.text.specs.Numbers.{bytes_of, hex_bytes, bytes_into};
 
 use crate::read::digit;
@@ -10,37 +10,24 @@ use crate::read::digit;
 fn all_hex(s: &[u8]) -> bool
     ensures { result ≡ all_digits 16 s.now }
 {
-    let mut i: usize = 0;
-    while i < s.len() {
-        let d = digit(s[i]);
-        if d > 15 {
-            return false;
-        }
-        i += 1;
-    }
-    true
+    s.iter().all(|b| digit(*b).is_some())
 }
 
 // Does s write at most this many bytes?
+#[tactic(auto, unfolding(crate::specs::Numbers::hex_bytes))]
 fn is_bytes(s: &[u8], most: usize) -> bool
     requires { most < 9223372036854775808 }
     ensures { result ≡ hex_bytes most s.now }
 {
-    if s.len() > 2 * most {
-        return false;
-    }
-    if s.len() % 2 != 0 {
-        return false;
-    }
-    all_hex(s)
+    s.len() <= 2 * most && (s.len() % 2 == 0 && all_hex(s))
 }
 
-// A byte of two digits.
+// The byte that two digits write. With `unwrap_or` in the place of `unwrap` the compiler works them out without a branch, which digits would mispredict.
 fn byte(a: u8, b: u8) -> u8
-    requires { (a < 16) × (b < 16) }
-    ensures { result ≡ a * 16 + b }
+    requires { (digit_of a < 16) × (digit_of b < 16) }
+    ensures { result ≡ digit_of a * 16 + digit_of b }
 {
-    a * 16 + b
+    digit(a).unwrap_or(0) * 16 + digit(b).unwrap_or(0)
 }
 
 // The bytes that digits write, at the start of `out`.
@@ -48,13 +35,8 @@ fn store(s: &[u8], out: &mut [u8])
     requires { (length s.now ≤ 2 * length out.old) × (all_digits 16 s.now ≡ true) }
     ensures { out.new ≡ sets out.old 0 (bytes_of s.now) }
 {
-    let n = s.len() / 2;
-    let mut i: usize = 0;
-    while i < n {
-        let a = digit(s[2 * i]);
-        let b = digit(s[2 * i + 1]);
-        out[i] = byte(a, b);
-        i += 1;
+    for i in 0..s.len() / 2 {
+        out[i] = byte(s[2 * i], s[2 * i + 1]);
     }
 }
 
@@ -63,9 +45,9 @@ pub fn bytes(s: &[u8], out: &mut [u8]) -> bool
     ensures { (result ≡ hex_bytes (length out.old) s.now)
         × (out.new ≡ bytes_into s.now out.old) }
 {
-    if is_bytes(s, out.len()) {
+    let good = is_bytes(s, out.len());
+    if good {
         store(s, out);
-        return true;
     }
-    false
+    good
 }

@@ -5,26 +5,6 @@
 pub mod fields;
 pub mod hex;
 pub mod lines;
+pub mod places;
 pub mod read;
 pub mod write;
-
-// A number without a sign, or that the text writes none within its bound.
-#[derive(Clone, Copy)]
-pub enum Number {
-    Got(u32),
-    Bad,
-}
-
-// A whole number of either sign, or that the text writes none within its bounds.
-#[derive(Clone, Copy)]
-pub enum Whole {
-    Is(i32),
-    Wrong,
-}
-
-// A part of a line: from start up to end.
-#[derive(Clone, Copy)]
-pub struct Span {
-    pub start: usize,
-    pub end: usize,
-}

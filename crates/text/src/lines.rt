@@ -2,7 +2,8 @@
 ghost use Rattle.std.specs.Prelude.{◌≡◌, ◌≤◌, length, take};
 ghost use Rattle.text.specs.Lines.{push_of, Filled};
 
-// How far a block was taken: the place after what was taken, how many bytes of the line are kept, and whether it has ended.
+// How far a block was taken: the place after what was taken, how many bytes of the line are kept, and whether it has ended. Block and line are lent anew
+// for each part of a line, so a count stands for what is in them: fixed memory.
 #[derive(Clone, Copy)]
 pub struct Filling {
     pub at: usize,
@@ -27,11 +28,10 @@ pub fn fill(block: &[u8], at: usize, buf: &mut [u8], n: usize) -> Filling
     requires { (n ≤ length buf.old) × (at ≤ length block.now) }
     ensures { Filled (length buf.old) block.now at (take n buf.old) result (take result.kept buf.new) }
 {
-    let mut i = at;
     let mut k = n;
-    while i < block.len() {
+    for i in at..block.len() {
         let b = block[i];
-        if b == 10 {
+        if b == b'\n' {
             return Filling {
                 at: i + 1,
                 kept: k,
@@ -39,10 +39,9 @@ pub fn fill(block: &[u8], at: usize, buf: &mut [u8], n: usize) -> Filling
             };
         }
         k = push(buf, k, b);
-        i += 1;
     }
     Filling {
-        at: i,
+        at: block.len(),
         kept: k,
         ended: false,
     }

@@ -1,4 +1,5 @@
 -- What an accepted allocation tells: its tests passed, and its lists are the definition's. Assumes nothing.
+use Rattle.std.specs.Prelude.{Ok}
 use Prim.Native.Nat.{ℕ, zero, suc}
 use mathlib.Core.Bool.{true, ◌&&◌, and-eq-true_iff}
 use mathlib.Core.List.{List}
@@ -20,10 +21,7 @@ use Rattle.rate_bands.proofs.Frames.{in_ok}
 use Rattle.rate_skip.specs.Asks.{read_ask, write_ask}
 use Rattle.rate.specs.declared.AllocNumbers.{AllocNumbers}
 use Rattle.rate.specs.declared.Wishes.{Wishes}
-use Rattle.rate.specs.declared.ReadAllocation.{ReadAllocation}
-use Rattle.rate.specs.declared.WrittenAllocation.{WrittenAllocation}
-use Rattle.rate.specs.declared.AllocRead.TheVariants as alloc_read
-use Rattle.rate.specs.declared.AllocWrote.TheVariants as alloc_written
+use Rattle.rate.specs.Allocations.{ReadAllocation, WrittenAllocation}
 use Rattle.rate.specs.Question.{Lists, alloc_input, entries_ok, numbers_ok, refusal_read, refusal_write, sized, stereo_ok}
 use Rattle.rate.specs.Answer.{AfterRead, AfterWrite, after_read, after_write, answer_read, answer_written, lists_of, read_alloc, reading, write_wished, writing}
 use Rattle.rate.proofs.Accepts as accepts
@@ -32,7 +30,7 @@ use Rattle.rate.proofs.Accepts as accepts
 
 module _ (a : AllocIn) (l m : Lists) where
   -- an accepted read has number 0, and left the lists
-  read-zero : (n : ℕ) (x : AllocOut × Reader) (y : ReadAllocation) → answer_read n a x l ≡ after_read (alloc_read.Done y) m → (n ≡ 0) × (m ≡ lists_of a x.0 l)
+  read-zero : (n : ℕ) (x : AllocOut × Reader) (y : ReadAllocation) → answer_read n a x l ≡ after_read (Ok y) m → (n ≡ 0) × (m ≡ lists_of a x.0 l)
   read-zero zero x y e = (refl, sym (ap (λ (r : AfterRead). r.lent) (accepts.done-read 0 a x l refl refl refl ∙ e)))
   read-zero (suc n) x y e =
       let p = ap (λ (r : AfterRead). r.said) (accepts.refused-read (suc n) a x l (λ z. omega arith) ∙ e) in
@@ -40,7 +38,7 @@ module _ (a : AllocIn) (l m : Lists) where
       absurd (omega arith)
 
   -- so has an accepted write
-  written-zero : (n : ℕ) (x : AllocOut × Wr) (w : Wr) (b : List ℕ) (y : WrittenAllocation) → answer_written n a x l w ≡ after_write (alloc_written.Done y) m b
+  written-zero : (n : ℕ) (x : AllocOut × Wr) (w : Wr) (b : List ℕ) (y : WrittenAllocation) → answer_written n a x l w ≡ after_write (Ok y) m b
       → (n ≡ 0) × (m ≡ lists_of a x.0 l)
   written-zero zero x w b y e = (refl, sym (ap (λ (r : AfterWrite). r.lent) (accepts.done-written 0 a x l w refl refl refl refl ∙ e)))
   written-zero (suc n) x w b y e =
@@ -60,7 +58,7 @@ pub record Shared (q : AllocNumbers) (offsets caps : List ℤ) (l m : Lists) : T
 
 -- what holds of every accepted read
 pub read_shared : (q : AllocNumbers) (offsets caps : List ℤ) (s : List ℕ) (d : Reader) (l m : Lists) (y : ReadAllocation)
-    → reading q offsets caps s d l ≡ after_read (alloc_read.Done y) m → Shared q offsets caps l m
+    → reading q offsets caps s d l ≡ after_read (Ok y) m → Shared q offsets caps l m
 unfolding refusal_read read_refusal
 read_shared q offsets caps s d l m y e =
     let a = alloc_input q offsets caps in
@@ -78,7 +76,7 @@ read_shared q offsets caps s d l m y e =
 
 -- what holds of every accepted write
 pub written_shared : (q : AllocNumbers) (h : Wishes) (offsets caps : List ℤ) (w : Wr) (l m : Lists) (b : List ℕ) (y : WrittenAllocation)
-    → writing q h offsets caps w l ≡ after_write (alloc_written.Done y) m b → Shared q offsets caps l m
+    → writing q h offsets caps w l ≡ after_write (Ok y) m b → Shared q offsets caps l m
 unfolding refusal_write
 written_shared q h offsets caps w l m b y e =
     let a = alloc_input q offsets caps in

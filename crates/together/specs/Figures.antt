@@ -1,6 +1,6 @@
 -- Document 01's known figures that are proved together: what each call is asked, and what it answers. Every call stands here as its contract
 -- states it. The proof is in proofs/Figures.antt.
-use Rattle.std.specs.Prelude.{ℕ, false, List, [], ◌∷◌, map, ◌≡◌, ℤ, pos, negsuc, Float, replicate}
+use Rattle.std.specs.Prelude.{ℕ, false, List, [], ◌∷◌, map, ◌≡◌, ℤ, pos, negsuc, Float, replicate, Ok}
 use Rattle.std.specs.Float.{fin}
 use Rattle.laws.specs.Lists.{fill}
 use Rattle.laws.specs.Signs.{clip}
@@ -13,10 +13,8 @@ use Rattle.entdec.specs.Symbols.{read_sym}
 use Rattle.cwrs_counts.specs.Count.{Vn}
 use Rattle.rate_cache.specs.Lookups.{pulses_at}
 use Rattle.rate_spec.specs.Caps.{cap_of}
-use Rattle.rate.specs.declared.AllocRead.TheVariants as alloc_read
 use Rattle.rate.specs.Question.{alloc_numbers, lists, no_entries, no_lists}
-use Rattle.rate.specs.Answer.{AfterRead, after_read, read_numbers, reading}
-use Rattle.quant_bands.specs.declared.EnergyRead.TheVariants as energy_read
+use Rattle.rate.specs.Answer.{AfterRead, after_read, numbers, reading}
 use Rattle.quant_bands.specs.Answer.{After, after, finalise_reading}
 
 -- ---- what is asked
@@ -82,7 +80,7 @@ answered (KnownRequest.last_bit_of fine byte) =
 -- accepted: band 0's pulses, fine bits and priority, the balance, the intensity, and the reader after the call; one band is coded
 abbrev pub gave : ℕ → ℕ → ℕ → ℕ → ℕ → Reader → KnownAnswer
 gave pulses fine prio balance intensity next =
-    KnownAnswer.allocated (after_read (alloc_read.Done (read_numbers 1 balance intensity false next))
+    KnownAnswer.allocated (after_read (Ok (numbers 1 balance intensity false next))
     (lists (first_entry pulses) (first_entry fine) (first_entry prio)))
 
 -- the reader after intensity was read as one of two
@@ -113,7 +111,7 @@ figures =
     KnownAnswer.counted 4 ∷ KnownAnswer.counted 8 ∷ KnownAnswer.counted 18 ∷
     gave 8 7 0 7 0 (new_reader 0) ∷ gave 8 8 0 28 0 (new_reader 0) ∷ gave 0 0 1 0 0 (new_reader 0) ∷
     gave 7 0 1 0 0 (new_reader 0) ∷ gave 16 1 1 0 0 (after_intensity 0) ∷ gave 16 0 0 8 1 (after_dual 128) ∷
-    KnownAnswer.spent (after (energy_read.Done (after_bit 1)) (first_energy (fin false 1 (negsuc 8)))) ∷ []
+    KnownAnswer.spent (after (Ok (after_bit 1)) (first_energy (fin false 1 (negsuc 8)))) ∷ []
 
 -- the statement: each call answers its figure
 abbrev pub KnownFigures : Type 0

@@ -1,16 +1,13 @@
 -- `unquant_energy_finalise` takes the fine bits and priorities that an allocation gave, where the entries that no band of it has were in range when
 -- they were lent. The proofs are in proofs/Finalise.antt.
-use Rattle.std.specs.Prelude.{ℕ, ◌≤◌, ◌<◌, true, List, ◌⊎◌, ◌≡◌, ℤ, pos, Float, get_or, length, replicate}
+use Rattle.std.specs.Prelude.{ℕ, ◌≤◌, ◌<◌, true, List, ◌⊎◌, ◌≡◌, ℤ, pos, Float, get_or, length, replicate, Ok}
 use Rattle.laws.specs.Signs.{clip, in_range}
 use Rattle.entdec.specs.declared.Reader.{Reader}
 use Rattle.entdec.specs.Rule.{read_refusal}
 use Rattle.entenc.specs.Write.{Wr}
 use Rattle.rate.specs.declared.AllocNumbers.{AllocNumbers}
 use Rattle.rate.specs.declared.Wishes.{Wishes}
-use Rattle.rate.specs.declared.ReadAllocation.{ReadAllocation}
-use Rattle.rate.specs.declared.WrittenAllocation.{WrittenAllocation}
-use Rattle.rate.specs.declared.AllocRead.TheVariants as alloc_read
-use Rattle.rate.specs.declared.AllocWrote.TheVariants as alloc_written
+use Rattle.rate.specs.Allocations.{ReadAllocation, WrittenAllocation}
 use Rattle.rate.specs.Question.{Lists, lists}
 use Rattle.rate.specs.Answer.{after_read, after_write, reading, writing}
 use Rattle.quant_bands.specs.Question.{bands_ok, energies_ok, energies_sized, fines_ok, refusal_finalise}
@@ -42,13 +39,13 @@ pub record TakenByFinalise (q : AllocNumbers) (m : Lists) : Type 0 where
 abbrev pub ReadIsTaken : Type 0
 ReadIsTaken =
     (q : AllocNumbers) (offsets caps : List ℤ) (s : List ℕ) (d : Reader) (l m : Lists) (y : ReadAllocation) → LentFit q l
-    → reading q offsets caps s d l ≡ after_read (alloc_read.Done y) m → TakenByFinalise q m
+    → reading q offsets caps s d l ≡ after_read (Ok y) m → TakenByFinalise q m
 
 -- and one that was written
 abbrev pub WrittenIsTaken : Type 0
 WrittenIsTaken =
     (q : AllocNumbers) (h : Wishes) (offsets caps : List ℤ) (w : Wr) (l m : Lists) (b : List ℕ) (y : WrittenAllocation) → LentFit q l
-    → writing q h offsets caps w l ≡ after_write (alloc_written.Done y) m b → TakenByFinalise q m
+    → writing q h offsets caps w l ≡ after_write (Ok y) m b → TakenByFinalise q m
 
 -- lists of zeros are such
 abbrev pub ZerosFit : Type 0

@@ -1,12 +1,11 @@
 -- Allocations over whole frames, as the public call reads them: three that libopus made while it decoded, and five of one band for what those do not
 -- run of the split. The proofs are in proofs/Frames.antt.
-use Rattle.std.specs.Prelude.{ℕ, Bool, false, List, [], ◌∷◌, map, ◌≡◌, ℤ, pos, replicate}
+use Rattle.std.specs.Prelude.{ℕ, Bool, false, List, [], ◌∷◌, map, ◌≡◌, ℤ, pos, replicate, Ok}
 use Rattle.entdec.specs.declared.Reader.{Reader}
 use Rattle.entdec.specs.Read.{fresh_reader}
 use Rattle.rate.specs.declared.AllocNumbers.{AllocNumbers}
-use Rattle.rate.specs.declared.AllocRead.TheVariants as alloc_read
 use Rattle.rate.specs.Question.{alloc_numbers, lists, no_entries, no_lists}
-use Rattle.rate.specs.Answer.{AfterRead, after_read, read_numbers, reading}
+use Rattle.rate.specs.Answer.{AfterRead, after_read, numbers, reading}
 
 -- ---- recorded
 
@@ -30,7 +29,7 @@ pub record Recorded : Type 0 where
 abbrev pub Same : Recorded → Type 0
 Same r =
     reading r.q (map pos r.offsets) (map pos r.caps) r.packet r.reader no_lists
-    ≡ after_read (alloc_read.Done (read_numbers r.coded r.balance r.intensity r.dual r.next))
+    ≡ after_read (Ok (numbers r.coded r.balance r.intensity r.dual r.next))
     (lists (map pos r.pulses) (map pos r.fine) (map pos r.priorities))
 
 -- two channels, 10 ms: six bands are skipped, one of them with a fine bit, and the two lowest have two channels
@@ -185,7 +184,7 @@ eighth n = pos 0 ∷ pos 0 ∷ pos 0 ∷ pos 0 ∷ pos 0 ∷ pos 0 ∷ pos 0 ∷
 
 -- accepted: band 8 has these pulses, fine bits and priority, and this balance is handed on; nothing is read
 abbrev pub has : ℕ → ℕ → ℕ → ℕ → AfterRead
-has pulses fine prio balance = after_read (alloc_read.Done (read_numbers 9 balance 0 false (fresh_reader (0 ∷ []))))
+has pulses fine prio balance = after_read (Ok (numbers 9 balance 0 false (fresh_reader (0 ∷ []))))
     (lists (eighth pulses) (eighth fine) (eighth prio))
 
 -- no fine bit is wanted; above the cap nothing, one and three further fine bits, the last of them all that it can have; more than 8 are wanted

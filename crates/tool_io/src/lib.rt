@@ -6,14 +6,14 @@
 // them serves for one call: with an old one, a second call's `requires` is false.
 #![tactic(auto)]
 
-ghost use Rattle.std.specs.Prelude.{◌≡◌, ◌+◌, ◌%◌, ◌^◌, ◌<◌, ◌≤◌, true, [], ◌∷◌, ◌++◌, length, take, nat_lt};
+ghost use Rattle.std.specs.Prelude.{◌≡◌, ◌+◌, ◌%◌, ◌^◌, ◌<◌, ◌≤◌, true, [], ◌∷◌, length, nat_lt};
 ghost use Rattle.tool_io.specs.Moved.{Noted, OneRead, OneWrite, NewInput, NewOutput};
 
 use std::io;
 use std::io::{ErrorKind, Print, Read, Stdin, Stdout};
 
 // An input: its handle, the bytes in its record, whether they are all that was read, whether its end was seen, whether a read failed, and the
-// calls made. Only this file can make one or look inside.
+// calls made. Only this file can make one or look inside. Each mark is a field of its own, since `OneRead` says of each by itself what a call makes of it.
 #[derive(Clone, Copy)]
 pub struct Input {
     handle: Stdin,
@@ -24,7 +24,7 @@ pub struct Input {
     calls: u64,
 }
 
-// The output, in the same way; `left` says whether a write failed since nobody reads the output any more.
+// The output, in the same way, for `OneWrite`; `left` says whether a write failed since nobody reads the output any more.
 #[derive(Clone, Copy)]
 pub struct Output {
     handle: Stdout,
@@ -42,7 +42,7 @@ pub struct BlockRead {
     pub input: Input,
 }
 
-// The bytes in a record after a call, and whether they are all that was moved.
+// The bytes in a record after a call, and whether they are all that was moved: `Noted` counts them also where they are not.
 #[derive(Clone, Copy)]
 pub struct Note {
     pub logged: usize,
@@ -120,7 +120,7 @@ pub struct Turns {
 // As many turns as a count has.
 pub fn all_turns() -> Turns {
     Turns {
-        remaining: 18446744073709551615,
+        remaining: u64::MAX,
     }
 }
 
@@ -156,32 +156,18 @@ pub fn give_up(t: Turns, s: Output) -> Output
     }
 }
 
-// Copies the bytes into the record, from place n on.
-fn copied(log: &mut [u8], n: usize, bytes: &[u8])
-    requires { n + length bytes.now ≤ length log.old }
-    ensures { take (n + length bytes.now) log.new ≡ take n log.old ++ bytes.now }
-{
-    let mut i = 0;
-    while i < bytes.len() {
-        log[n + i] = bytes[i];
-        i += 1;
-    }
-}
-
 // The bytes go into the record where it is complete and has room for them; where it has none, it is complete no more.
 fn noted(log: &mut [u8], n: usize, complete: bool, bytes: &[u8]) -> Note
     requires { n ≤ length log.old }
     ensures { Noted n complete log.old bytes.now result.logged result.complete log.new }
 {
-    if complete {
-        if bytes.len() <= log.len() - n {
-            let m = n + bytes.len();
-            copied(log, n, bytes);
-            return Note {
-                logged: m,
-                complete: true,
-            };
-        }
+    if complete && bytes.len() <= log.len() - n {
+        let end = n + bytes.len();
+        log[n..end].copy_from_slice(bytes);
+        return Note {
+            logged: end,
+            complete: true,
+        };
     }
     Note {
         logged: n,
@@ -194,7 +180,7 @@ fn count_call(calls: &mut [u64], made: u64) -> u64
     requires { calls.old ≡ made ∷ [] }
     ensures { (calls.new ≡ result ∷ []) × (result ≡ (made + 1) % 2 ^ 64) }
 {
-    let next = std::num::wrapping_add_u64(made, 1);
+    let next = made.wrapping_add(1);
     calls[0] = next;
     next
 }
@@ -235,10 +221,7 @@ pub fn read_block(block: &mut [u8], log: &mut [u8], calls: &mut [u64], s: Input)
 
 // Whether a write failed since nobody reads any more.
 fn is_left(written: &io::Result<()>) -> bool {
-    match written {
-        Ok(()) => false,
-        Err(e) => e.kind() == ErrorKind::BrokenPipe,
-    }
+    matches!(written, Err(e) if e.kind() == ErrorKind::BrokenPipe)
 }
 
 // Hands the text to standard output.

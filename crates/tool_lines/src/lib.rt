@@ -7,7 +7,8 @@ pub mod output;
 use tool_io::{Input, Output};
 
 // An input and its block: the place in the block and the end of what was read into it; the bytes of a line that are kept, and whether they
-// are a whole line; and whether there is no more to read.
+// are a whole line; and whether there is no more to read. The places are numbers and no slices, since block and line are lent anew to each call, so
+// that the tool has fixed memory, and `Running` speaks of both as a whole. Each mark is a field of its own: `Went` says of each what a step makes of it.
 #[derive(Clone, Copy)]
 pub struct Reader {
     pub at: usize,
@@ -18,7 +19,8 @@ pub struct Reader {
     pub input: Input,
 }
 
-// Text on its way to standard output: how many bytes of the buffer are not handed over yet, whether to go on, and the output.
+// Text on its way to standard output: how many bytes of the buffer, which is lent to each call, are not handed over yet, whether to go on, and the
+// output. Whether to go on is a field of its own, as `Running` and `Flushed` have it.
 #[derive(Clone, Copy)]
 pub struct Pen {
     pub pending: usize,

@@ -1,4 +1,5 @@
 -- By the theorem of round_trip the reader agrees with all that was written. Assumes nothing.
+use Rattle.std.specs.Prelude.{Ok}
 use Prim.Native.Nat.{ℕ}
 use mathlib.Core.Path.{◌≡◌, refl, ap, sym, ◌∙◌}
 use mathlib.Core.Bool.{Bool, true, false, cond}
@@ -14,8 +15,7 @@ use Rattle.entenc.specs.Answer.{closing, start_of}
 use Rattle.entenc.specs.Write.{Wr, wr}
 use Rattle.rate.specs.declared.AllocNumbers.{AllocNumbers}
 use Rattle.rate.specs.declared.Wishes.{Wishes}
-use Rattle.rate.specs.declared.WrittenAllocation.{WrittenAllocation}
-use Rattle.rate.specs.declared.AllocWrote.TheVariants as alloc_written
+use Rattle.rate.specs.Allocations.{WrittenAllocation}
 use Rattle.rate.specs.Question.{Lists, no_lists}
 use Rattle.rate.specs.Answer.{after_write, writing}
 use Rattle.trip_theorem.specs.Calls.{Symbol, Tells, value_count, tells_r, tells_w}
@@ -23,9 +23,8 @@ use Rattle.trip_theorem.specs.Rows.{WriteRow, write_all}
 use Rattle.trip_theorem.specs.Rows.WriteRow.{write_row, write_row_refused}
 use Rattle.trip_theorem.specs.Demand.{Agreed, Sent}
 use Rattle.trip_theorem.proofs.Demand3.{demand3}
-use Rattle.trip_call.specs.declared.Outcome.{Outcome}
-use Rattle.trip_call.specs.declared.Outcome.TheVariants as outcome
-use Rattle.trip_call.specs.Outcome.{NeverDisagreed, ReaderAgrees, allot_outcome, close_outcome, new_outcome, row_outcome}
+use Rattle.trip_call.specs.Outcome.{Ending, NeverDisagreed, ReaderAgrees, allot_outcome, close_outcome, new_outcome, row_outcome}
+use Rattle.trip_call.specs.Outcome.Ending.{agreed, disagreed, not_closed, refused_by}
 use Rattle.trip_call.specs.ReadBack.{agrees}
 use Rattle.trip_call.specs.Same.{same_tells, same_value}
 use Rattle.trip_call.proofs.Joining.{tells_equal}
@@ -72,14 +71,14 @@ module _ (q : AllocNumbers) (offsets caps : List ℤ) (h : Wishes) (bytes : List
 
   -- after a close by whether it set the error mark
   by-mark : (t a : Bool) → (t ≡ false → a ≡ true)
-      → cond t outcome.NotClosed (cond a outcome.Agreed outcome.Disagreed) ≡ cond t outcome.NotClosed outcome.Agreed
+      → cond t not_closed (cond a agreed disagreed) ≡ cond t not_closed agreed
   by-mark true a f = refl
   by-mark false a f = rw (f refl)
 
   module _ (w : Writer) (new : start_of (length bytes) ≡ done w) where
     module _ (v : Wr) (zs : List Symbol) (ts : List Tells) (writes : write_all ys (wr w bytes) ≡ write_row v zs ts) where
       -- after the close the two outcomes are the same
-      close-agrees : (y : WrittenAllocation) (m : Lists) (filled : List ℕ) → writing q h offsets caps v no_lists ≡ after_write (alloc_written.Done y) m filled
+      close-agrees : (y : WrittenAllocation) (m : Lists) (filled : List ℕ) → writing q h offsets caps v no_lists ≡ after_write (Ok y) m filled
           → (r : Said Writer) (s : List ℕ) → closing (wr y.next filled) ≡ record { said = r; bytes = s }
           → close_outcome (agrees q offsets caps ys w (write_row v zs ts) y m) r s ≡ close_outcome (λ s. true) r s
       close-agrees y m filled allots (refused n) s e = refl
@@ -129,39 +128,39 @@ module _ (q : AllocNumbers) (offsets caps : List ℤ) (h : Wishes) (bytes : List
 pub reader-agrees : ReaderAgrees
 reader-agrees q offsets caps h bytes ys b = new-agrees q offsets caps h bytes ys b (start_of (length bytes)) refl
 
--- ---- the writer's side alone does not say Disagreed
+-- ---- the writer's side alone does not say disagreed
 
--- a number for each outcome
-abbrev number_of : Outcome → ℕ
-number_of outcome.Agreed = 0
-number_of (outcome.Refused by n) = 1
-number_of outcome.NotClosed = 2
-number_of outcome.Disagreed = 3
+-- a number for each ending
+abbrev place_of : Ending → ℕ
+place_of agreed = 0
+place_of (refused_by by n) = 1
+place_of not_closed = 2
+place_of disagreed = 3
 
--- where no reader is asked, the close does not end in Disagreed
-close-not : (r : Said Writer) (s : List ℕ) → close_outcome (λ s. true) r s ≡ outcome.Disagreed → ⊥
-close-not (refused n) s e = let z : ◌≡◌ {A = ℕ} 1 3 = ap number_of e in omega arith
+-- where no reader is asked, the close does not end in disagreed
+close-not : (r : Said Writer) (s : List ℕ) → close_outcome (λ s. true) r s ≡ disagreed → ⊥
+close-not (refused n) s e = let z : ◌≡◌ {A = ℕ} 1 3 = ap place_of e in omega arith
 close-not (done u) s e = go u.sink.error e
   where
-    go : (t : Bool) → cond t outcome.NotClosed outcome.Agreed ≡ outcome.Disagreed → ⊥
-    go true e = let z : ◌≡◌ {A = ℕ} 2 3 = ap number_of e in omega arith
-    go false e = let z : ◌≡◌ {A = ℕ} 0 3 = ap number_of e in omega arith
+    go : (t : Bool) → cond t not_closed agreed ≡ disagreed → ⊥
+    go true e = let z : ◌≡◌ {A = ℕ} 2 3 = ap place_of e in omega arith
+    go false e = let z : ◌≡◌ {A = ℕ} 0 3 = ap place_of e in omega arith
 
 -- nor does the allocation
-allot-not : (r : Said WrittenAllocation) (m : Lists) (b : List ℕ) → allot_outcome (λ y m s. true) r m b ≡ outcome.Disagreed → ⊥
+allot-not : (r : Said WrittenAllocation) (m : Lists) (b : List ℕ) → allot_outcome (λ y m s. true) r m b ≡ disagreed → ⊥
 allot-not (done y) m b e = close-not (closing (wr y.next b)).said (closing (wr y.next b)).bytes e
-allot-not (refused n) m b e = let z : ◌≡◌ {A = ℕ} 1 3 = ap number_of e in omega arith
+allot-not (refused n) m b e = let z : ◌≡◌ {A = ℕ} 1 3 = ap place_of e in omega arith
 
 module _ (q : AllocNumbers) (offsets caps : List ℤ) (h : Wishes) where
   -- nor do the symbols
-  row-not : (w : Writer) (a : WriteRow) → row_outcome q offsets caps h (λ w a y m s. true) w a ≡ outcome.Disagreed → ⊥
+  row-not : (w : Writer) (a : WriteRow) → row_outcome q offsets caps h (λ w a y m s. true) w a ≡ disagreed → ⊥
   row-not w (write_row v zs ts) e = let x = writing q h offsets caps v no_lists in allot-not x.said x.lent x.bytes e
-  row-not w (write_row_refused i n) e = let z : ◌≡◌ {A = ℕ} 1 3 = ap number_of e in omega arith
+  row-not w (write_row_refused i n) e = let z : ◌≡◌ {A = ℕ} 1 3 = ap place_of e in omega arith
 
   -- nor the new writer
-  new-not : (bytes : List ℕ) (ys : List Symbol) (r : Said Writer) → new_outcome q offsets caps h (λ w a y m s. true) bytes ys r ≡ outcome.Disagreed → ⊥
+  new-not : (bytes : List ℕ) (ys : List Symbol) (r : Said Writer) → new_outcome q offsets caps h (λ w a y m s. true) bytes ys r ≡ disagreed → ⊥
   new-not bytes ys (done w) e = row-not w (write_all ys (wr w bytes)) e
-  new-not bytes ys (refused n) e = let z : ◌≡◌ {A = ℕ} 1 3 = ap number_of e in omega arith
+  new-not bytes ys (refused n) e = let z : ◌≡◌ {A = ℕ} 1 3 = ap place_of e in omega arith
 
 -- so no trip does
 pub never_disagreed : NeverDisagreed

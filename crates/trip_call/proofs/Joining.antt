@@ -13,7 +13,7 @@ use Rattle.entdec.specs.declared.Reader.{Reader}
 use Rattle.entenc.specs.declared.Writer.{Writer}
 use Rattle.entenc.specs.Write.{Wr, wr}
 use Rattle.rate.specs.declared.AllocNumbers.{AllocNumbers}
-use Rattle.rate.specs.declared.WrittenAllocation.{WrittenAllocation}
+use Rattle.rate.specs.Allocations.{WrittenAllocation}
 use Rattle.rate.specs.Question.{Lists}
 use Rattle.trip_theorem.specs.Calls.{Kind, WriteStep, Symbol, Tells, ReadStep, Value, read_call, symbol, tells_r, tells_w, write_call}
 use Rattle.trip_theorem.specs.Calls.WriteStep.{write_step, write_refused}
@@ -21,8 +21,9 @@ use Rattle.trip_theorem.specs.Calls.ReadStep.{read_step, read_refused}
 use Rattle.trip_theorem.specs.Rows.{ReadRow, WriteRow, written_before, read_before, kinds, write_then, read_all, read_then, write_all}
 use Rattle.trip_theorem.specs.Rows.WriteRow.{write_row, write_row_refused}
 use Rattle.trip_theorem.specs.Rows.ReadRow.{read_row, read_row_refused}
-use Rattle.trip_call.specs.declared.rows.RowWrote.{RowWrote}
-use Rattle.trip_call.specs.declared.rows.RowWrote.TheVariants as row
+use Rattle.std.specs.Prelude.{Result, Ok, Err}
+use Rattle.entcode.specs.Refusal.{number_of}
+use Rattle.trip_call.specs.declared.rows.RowRefusal.{RowRefusal}
 use Rattle.trip_call.specs.Given.{given_at, symbol_of, symbols_from, symbols_of}
 use Rattle.trip_call.specs.Steps.{count_written, count_read, write_symbol, read_symbol}
 use Rattle.trip_call.specs.Runs.{Pairs, AfterRow, pair_then, pair_from, row_then, after_row_of, row_from}
@@ -87,16 +88,16 @@ module _ (l t : List ℕ) (w : Wr) where
   row-refused i n e = refused_of _ i n (e ∙ run_is l t (length l / 5) 0 w)
 
 -- by the code's answer r, which left the bytes k; b is a copy of the bytes
-module _ (l t bytes : List ℕ) (w : Writer) {b : List ℕ} (r : RowWrote) (k : List ℕ) (p : b ≡ bytes)
+module _ (l t bytes : List ℕ) (w : Writer) {b : List ℕ} (r : Result Writer RowRefusal) (k : List ℕ) (p : b ≡ bytes)
     (e : after_row_of r k ≡ row_from l t (length l / 5) 0 (wr w b))
   where
     -- the same, of the code's answer
-    pub rows_wrote : (v : Writer) → r ≡ row.Done v → RowWritten (write_all (symbols_of l t) (wr w bytes)) (wr v k)
+    pub rows_wrote : (v : Writer) → r ≡ Ok v → RowWritten (write_all (symbols_of l t) (wr w bytes)) (wr v k)
     rows_wrote v q = row_wrote l t (wr w bytes) (wr v k) (rw (q, p) at e)
 
     -- and its refusal
-    pub rows_refused : (i n : ℕ) → r ≡ row.Refused i n → write_all (symbols_of l t) (wr w bytes) ≡ write_row_refused i n
-    rows_refused i n q = row-refused l t (wr w bytes) i n (rw (q, p) at e)
+    pub rows_refused : (x : RowRefusal) → r ≡ Err x → write_all (symbols_of l t) (wr w bytes) ≡ write_row_refused x.place (number_of x.why)
+    rows_refused x q = row-refused l t (wr w bytes) x.place (number_of x.why) (rw (q, p) at e)
 
 -- ---- and read
 

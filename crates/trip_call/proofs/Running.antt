@@ -5,7 +5,7 @@ use mathlib.Core.Bool.{Bool, true, false, cond, ◌&&◌}
 use mathlib.Core.List.{List}
 use native.Mathlib.Omega.{arith}
 use lib.Dec.{eqb}
-use Rattle.entcode.specs.Said.{Said}
+use Rattle.entcode.specs.Said.{said}
 use Rattle.entdec.specs.declared.Reader.{Reader}
 use Rattle.entenc.specs.declared.Writer.{Writer}
 use Rattle.entenc.specs.Write.{Wr, wr}
@@ -13,44 +13,18 @@ use Rattle.trip_theorem.specs.Calls.{WriteStep, ReadStep, tells_r, tells_w}
 use Rattle.trip_theorem.specs.Calls.WriteStep.{write_step, write_refused}
 use Rattle.trip_theorem.specs.Calls.ReadStep.{read_step, read_refused}
 use Rattle.trip_call.specs.declared.given.Given.{Given}
-use Rattle.trip_call.specs.declared.writes.WrittenCount.{WrittenCount}
-use Rattle.trip_call.specs.declared.writes.SymbolWrote.{SymbolWrote}
-use Rattle.trip_call.specs.declared.writes.SymbolWrote.TheVariants as wrote
-use Rattle.trip_call.specs.declared.reads.ReadCount.{ReadCount}
-use Rattle.trip_call.specs.declared.reads.SymbolRead.TheVariants as read
+use Rattle.std.specs.Prelude.{Result, Ok, Err, Option, None, Some}
+use Rattle.entcode.specs.declared.reasons.Refusal.{Refusal}
+use Rattle.entcode.specs.Refusal.{number_of}
 use Rattle.trip_call.specs.declared.rows.Pair.{Pair}
-use Rattle.trip_call.specs.declared.rows.Pairs.{Pairs as PairsAnswer}
-use Rattle.trip_call.specs.declared.rows.Pairs.TheVariants as pairs
 use Rattle.trip_call.specs.Given.{given_at, symbol_of}
-use Rattle.trip_call.specs.Steps.{write_step_of, write_symbol, read_symbol}
-use Rattle.trip_call.specs.Runs.{Pairs, AfterRow, pair_then, pair_from, pair_of, pairs_of, row_then, row_from}
+use Rattle.trip_call.specs.Steps.{Counted, write_step_of, write_symbol, read_symbol}
+use Rattle.trip_call.specs.Runs.{Pairs, AfterRow, pair_then, pair_from, pairs_of, row_then, row_from}
 use Rattle.trip_call.specs.Runs.AfterRow.{after_row, row_refused}
 use Rattle.trip_call.specs.Runs.Pairs.{same, differs}
-use Rattle.trip_call.specs.Same.{same_tells, same_tell}
-
--- ---- one symbol's answers
-
--- the comparisons of tell and of tell_frac, as one
-pub tells-same : (w : Writer) (d : Reader) {a b p q : Said ℕ} {x y : Bool} → a ≡ (tells_w w).bits → b ≡ (tells_r d).bits → p ≡ (tells_w w).eighths
-    → q ≡ (tells_r d).eighths
-    → x ≡ same_tell a b → y ≡ same_tell p q → x && y ≡ same_tells (tells_w w) (tells_r d)
-tells-same w d e₁ e₂ e₃ e₄ h k = rw (h, k, e₁, e₂, e₃, e₄)
-
-module _ (x : WrittenCount) (y : ReadCount) {t : Bool} (p : t ≡ same_tells (tells_w x.next) (tells_r y.next)) where
-  -- a symbol that agrees
-  pub pair_yes : eqb x.count y.count && t ≡ true
-      → pairs.Same (record { writer = x.next; reader = y.next }) ≡ pair_of (wrote.Done x) (read.Done y)
-  pair_yes e = rw (← p, e)
+use Rattle.trip_call.specs.Same.{same_tells}
 
 -- ---- rows
-
--- from the first on
-pub run-all : (l t : List ℕ) (n : ℕ) (w : Wr) → row_from l t (n - 0) 0 w ≡ row_from l t n 0 w
-run-all l t n w = let p : n - 0 ≡ n = omega arith in rw p
-
--- all symbols are those from place 0 on
-pub pair_all : (l t s : List ℕ) (n : ℕ) (w : Wr) (d : Reader) → pair_from l t s (n - 0) 0 w d ≡ pair_from l t s n 0 w d
-pair_all l t s n w d = let p : n - 0 ≡ n = omega arith in rw p
 
 module _ (l t : List ℕ) (n i : ℕ) where
   -- one symbol more of the row
@@ -66,19 +40,19 @@ module _ (l t : List ℕ) (n i : ℕ) where
   unfolding row_from
   run_end w h e = let p : n - i ≡ 0 = omega arith in rw p at e
 
-  module _ (w : Wr) {g : Given} {x : AfterRow} (a : SymbolWrote) (b : List ℕ) (h : i < n) (f : g ≡ given_at l i)
-      (e : write_step_of a b ≡ write_symbol (symbol_of g t) w)
+  module _ (w : Wr) {g : Given} {x : AfterRow} (a : Result (Counted Writer) Refusal) (b : List ℕ) (h : i < n) (f : g ≡ given_at l i)
+      (e : write_step_of (said a) b ≡ write_symbol (symbol_of g t) w)
       (k : row_from l t (n - i) i w ≡ x) where
     -- one symbol more, by the code's answer
-    by-step : row_then (write_step_of a b) i (row_from l t (n - (i + 1)) (i + 1)) ≡ x
+    by-step : row_then (write_step_of (said a) b) i (row_from l t (n - (i + 1)) (i + 1)) ≡ x
     by-step = rw (e, f, ← run_step w h) k
 
     -- an accepted symbol leaves the others
-    pub run_on : (y : WrittenCount) → a ≡ wrote.Done y → row_from l t (n - (i + 1)) (i + 1) (wr y.next b) ≡ x
+    pub run_on : (y : Counted Writer) → a ≡ Ok y → row_from l t (n - (i + 1)) (i + 1) (wr y.next b) ≡ x
     run_on y p = rw p at by-step
 
     -- a refused one ends the row
-    pub run_no : {m : ℕ} → a ≡ wrote.Refused m → row_refused i m ≡ x
+    pub run_no : {why : Refusal} → a ≡ Err why → row_refused i (number_of why) ≡ x
     run_no p = rw p at by-step
 
 -- a pair that agreed goes on
@@ -112,16 +86,16 @@ module _ (l t s : List ℕ) (n i : ℕ) where
   unfolding pair_from
   pair_end w d h e = let p : n - i ≡ 0 = omega arith in rw p at e
 
-  module _ (w : Wr) (d : Reader) {g : Given} {x : Pairs} (a : PairsAnswer) (b : List ℕ) (h : i < n) (f : g ≡ given_at l i)
+  module _ (w : Wr) (d : Reader) {g : Given} {x : Pairs} (a : Option Pair) (b : List ℕ) (h : i < n) (f : g ≡ given_at l i)
       (e : pairs_of a b ≡ pair_then (write_symbol (symbol_of g t) w) (read_symbol (symbol_of g t) s d) same) (k : pair_from l t s (n - i) i w d ≡ x) where
     -- one symbol more, by the code's answer
     by_pair : then (pairs_of a b) (pair_from l t s (n - (i + 1)) (i + 1)) ≡ x
     by_pair = rw (e, then_pair, f, ← pair_step w d h) k
 
     -- a symbol that agrees leaves the others
-    pub pair_on : (p : Pair) → a ≡ pairs.Same p → pair_from l t s (n - (i + 1)) (i + 1) (wr p.writer b) p.reader ≡ x
+    pub pair_on : (p : Pair) → a ≡ Some p → pair_from l t s (n - (i + 1)) (i + 1) (wr p.writer b) p.reader ≡ x
     pair_on p q = rw q at by_pair
 
     -- one that differs ends the rows
-    pub pair_differs : a ≡ pairs.Differs → differs ≡ x
+    pub pair_differs : a ≡ None → differs ≡ x
     pair_differs q = rw q at by_pair

@@ -1,16 +1,14 @@
 -- Two lists compared entry by entry, and one copied into another. Assumes nothing.
-use Prim.Native.Nat.{ℕ, ◌+◌, ◌≤◌, ◌<◌}
-use mathlib.Core.Path.{◌≡◌, refl, sym, ◌∙◌}
-use mathlib.Core.Bool.{Bool, true, false, ◌&&◌}
+use mathlib.Core.Path.{◌≡◌, refl, ap₂}
+use mathlib.Core.Bool.{Bool, true, ◌&&◌}
 use mathlib.Core.List.{List, [], ◌∷◌}
-use native.Mathlib.Numerals.{add-one}
 use native.Mathlib.Omega.{arith}
 use lib.IntN.{ℤ, pos, negsuc}
-use lib.ListN.{drop, drop_of_length-le, get_or, length}
-use lib.Seq.{drop-cons}
 use borrow.Author.Tests.{le-leb}
-use Rattle.rate.specs.declared.ReadAllocation.{ReadAllocation}
-use Rattle.rate.specs.declared.WrittenAllocation.{WrittenAllocation}
+use lib.Pointwise.{pointwise}
+use Rattle.std.proofs.lemmas.Int.{ints}
+use Rattle.std.specs.Ordering.{int_eq}
+use Rattle.rate.specs.Allocations.{ReadAllocation, WrittenAllocation}
 use Rattle.trip_call.specs.Same.{alike, same_int, same_ints, same_numbers}
 
 -- ---- what is equal compares as the same
@@ -36,29 +34,16 @@ pub numbers-same : (y : WrittenAllocation) (x : ReadAllocation) → x.coded ≡ 
     → same_numbers y x ≡ true
 numbers-same y x p q r s = rw (p, q, r, s, int_same y.coded, int_same y.balance, int_same y.intensity, int_same y.dual)
 
--- ---- one entry on
+-- ---- the library's equality
 
-module _ (x y : List ℤ) (e : length y ≡ length x) (i : ℕ) where
-  -- the comparison from place i on is that of place i, then of the others
-  ints_step : i < length x → same_ints (drop i x) (drop i y) ≡
-      (same_int (get_or x i (pos 0)) (get_or y i (pos 0)) && same_ints (drop (i + 1) x) (drop (i + 1) y))
-  unfolding alike
-  ints_step h =
-      let k : i < length y = omega arith in
-      rw (add-one, drop-cons x i (pos 0) h, drop-cons y i (pos 0) k)
+-- one test of equal numbers is the other
+int-eq : (x y : ℤ) → int_eq x y ≡ same_int x y
+int-eq x y = grind (arith, ints)
 
-  module _ {b r : Bool} (h : i < length x) (p : b ≡ same_int (get_or x i (pos 0)) (get_or y i (pos 0))) (k : same_ints (drop i x) (drop i y) ≡ r) where
-    -- an entry that is the same leaves the others
-    pub ints_on : b ≡ true → same_ints (drop (i + 1) x) (drop (i + 1) y) ≡ r
-    ints_on t = let q : same_int (get_or x i (pos 0)) (get_or y i (pos 0)) ≡ true = sym p ∙ t in rw q at (sym (ints_step h) ∙ k)
-
-    -- one that differs ends the comparison
-    pub ints_no : b ≡ false → false ≡ r
-    ints_no t = let q : same_int (get_or x i (pos 0)) (get_or y i (pos 0)) ≡ false = sym p ∙ t in rw q at (sym (ints_step h) ∙ k)
-
-  -- after the last entry the lists are the same
-  pub ints_end : {r : Bool} → length x ≤ i → same_ints (drop i x) (drop i y) ≡ r → true ≡ r
-  unfolding alike
-  ints_end h k =
-      let n : length y ≤ i = omega arith in
-      rw (drop_of_length-le x h, drop_of_length-le y n) at k
+-- so is that of lists
+pub ints-eq : (x y : List ℤ) → pointwise int_eq x y ≡ same_ints x y
+unfolding alike
+ints-eq [] [] = refl
+ints-eq [] (b ∷ y) = refl
+ints-eq (a ∷ x) [] = refl
+ints-eq (a ∷ x) (b ∷ y) = ap₂ ◌&&◌ (int-eq a b) (ints-eq x y)

@@ -6,8 +6,7 @@ use Rattle.entdec.specs.declared.Reader.{Reader}
 use Rattle.entdec.specs.Answer.{start_of as reader_over}
 use Rattle.entenc.specs.declared.Writer.{Writer}
 use Rattle.rate.specs.declared.AllocNumbers.{AllocNumbers}
-use Rattle.rate.specs.declared.ReadAllocation.{ReadAllocation}
-use Rattle.rate.specs.declared.WrittenAllocation.{WrittenAllocation}
+use Rattle.rate.specs.Allocations.{ReadAllocation, WrittenAllocation}
 use Rattle.rate.specs.Question.{Lists, no_lists}
 use Rattle.rate.specs.Answer.{reading}
 use Rattle.trip_theorem.specs.Calls.{Symbol, tells_r, tells_w}

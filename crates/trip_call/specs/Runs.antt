@@ -1,21 +1,19 @@
 -- Rows as the code goes through them, by places: the writer alone, then a writer that writes once more beside the reader.
-use Rattle.std.specs.Prelude.{ℕ, zero, suc, cond, ◌&&◌, List, eqb}
+use Rattle.std.specs.Prelude.{ℕ, zero, suc, cond, ◌&&◌, List, eqb, Result, Ok, Err, Option, None, Some}
+use Rattle.entcode.specs.Refusal.{number_of}
+use Rattle.entcode.specs.Said.{Said}
+use Rattle.entcode.specs.Said.Said.{done, refused}
 use Rattle.entdec.specs.declared.Reader.{Reader}
+use Rattle.entenc.specs.declared.Writer.{Writer}
 use Rattle.entenc.specs.Write.{Wr, wr}
 use Rattle.trip_theorem.specs.Calls.{WriteStep, ReadStep, tells_r, tells_w}
 use Rattle.trip_theorem.specs.Calls.WriteStep.{write_step, write_refused}
 use Rattle.trip_theorem.specs.Calls.ReadStep.{read_step, read_refused}
-use Rattle.trip_call.specs.declared.writes.SymbolWrote.{SymbolWrote}
-use Rattle.trip_call.specs.declared.writes.SymbolWrote.TheVariants as wrote
-use Rattle.trip_call.specs.declared.reads.SymbolRead.{SymbolRead}
-use Rattle.trip_call.specs.declared.reads.SymbolRead.TheVariants as read
-use Rattle.trip_call.specs.declared.rows.RowWrote.{RowWrote}
-use Rattle.trip_call.specs.declared.rows.RowWrote.TheVariants as row
-use Rattle.trip_call.specs.declared.rows.Pairs.{Pairs as PairsAnswer}
-use Rattle.trip_call.specs.declared.rows.Pairs.TheVariants as pairs
+use Rattle.trip_call.specs.declared.rows.RowRefusal.{RowRefusal}
+use Rattle.trip_call.specs.declared.rows.Pair.{Pair}
 use Rattle.trip_call.specs.Given.{given_at, symbol_of}
 use Rattle.trip_call.specs.Same.{same_tells}
-use Rattle.trip_call.specs.Steps.{write_symbol, read_symbol}
+use Rattle.trip_call.specs.Steps.{Counted, write_symbol, read_symbol}
 
 -- ---- the writer alone
 
@@ -35,9 +33,9 @@ row_from l tables zero i w = after_row w
 row_from l tables (suc n) i w = row_then (write_symbol (symbol_of (given_at l i) tables) w) i (row_from l tables n (suc i))
 
 -- what an answer of the code says, with the bytes after it
-abbrev pub after_row_of : RowWrote → List ℕ → AfterRow
-after_row_of (row.Done w) bytes = after_row (wr w bytes)
-after_row_of (row.Refused i n) bytes = row_refused i n
+abbrev pub after_row_of : Result Writer RowRefusal → List ℕ → AfterRow
+after_row_of (Ok w) bytes = after_row (wr w bytes)
+after_row_of (Err r) bytes = row_refused r.place (number_of r.why)
 
 -- ---- writer and reader side by side
 
@@ -59,14 +57,13 @@ pair_from l tables s (suc n) i w d =
     pair_then (write_symbol (symbol_of (given_at l i) tables) w) (read_symbol (symbol_of (given_at l i) tables) s d) (pair_from l tables s n (suc i))
 
 -- what an answer of the code says, with the bytes after it
-abbrev pub pairs_of : PairsAnswer → List ℕ → Pairs
-pairs_of (pairs.Same p) bytes = same (wr p.writer bytes) p.reader
-pairs_of pairs.Differs bytes = differs
+abbrev pub pairs_of : Option Pair → List ℕ → Pairs
+pairs_of (Some p) bytes = same (wr p.writer bytes) p.reader
+pairs_of None bytes = differs
 
 -- the code's answer for one symbol, from its two answers
-abbrev pub pair_of : SymbolWrote → SymbolRead → PairsAnswer
-pair_of (wrote.Done x) (read.Done y) =
-    cond (eqb x.count y.count && same_tells (tells_w x.next) (tells_r y.next)) (pairs.Same (record { writer = x.next; reader = y.next }))
-    pairs.Differs
-pair_of (wrote.Done x) (read.Refused n) = pairs.Differs
-pair_of (wrote.Refused n) y = pairs.Differs
+abbrev pub pair_of : Said (Counted Writer) → Said (Counted Reader) → Option Pair
+pair_of (done x) (done y) =
+    cond (eqb x.value y.value && same_tells (tells_w x.next) (tells_r y.next)) (Some (record { writer = x.next; reader = y.next })) None
+pair_of (done x) (refused n) = None
+pair_of (refused n) y = None

@@ -3,8 +3,7 @@ use Rattle.std.specs.Prelude.{ℕ, Bool, true, false, ◌&&◌, List, [], ◌∷
 use Rattle.laws.specs.Signs.{in_range}
 use Rattle.entcode.specs.Said.{Said}
 use Rattle.entcode.specs.Said.Said.{done, refused}
-use Rattle.rate.specs.declared.ReadAllocation.{ReadAllocation}
-use Rattle.rate.specs.declared.WrittenAllocation.{WrittenAllocation}
+use Rattle.rate.specs.Allocations.{ReadAllocation, WrittenAllocation}
 use Rattle.trip_theorem.specs.Calls.{Symbol, Tells, value_count}
 
 -- as many entries in both lists, each like the other's by `same`

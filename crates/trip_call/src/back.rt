@@ -8,181 +8,100 @@ ghost use Rattle.trip_call.specs.Given.{symbols_of};
 ghost use Rattle.trip_call.specs.ReadBack.{agrees, row_agrees, shares_agree};
 ghost use Rattle.trip_call.specs.Same.{same_ints, same_numbers, same_tells};
 
-use super::rows::Pairs;
-use super::{rows, shares};
-use entdec::{Reader, Started};
+use super::shares::Shares;
+use super::{Asked, rows, shares};
+use entdec::Reader;
 use entenc::Writer;
-use rate::{AllocNumbers, AllocRead, ReadAllocation, WrittenAllocation};
 
 // Are two allocations, and what writer and reader tell after them, the same?
-fn same_answers(
-    y: WrittenAllocation,
-    x: ReadAllocation,
-    pulses: &[i32],
-    fine: &[i32],
-    priorities: &[i32],
-    pulses2: &[i32],
-    fine2: &[i32],
-    priorities2: &[i32],
-) -> bool
-    requires { (length pulses2.now ≡ length pulses.now) × (length fine2.now ≡ length fine.now) ×
-        (length priorities2.now ≡ length priorities.now) }
-    ensures { result ≡ (same_numbers y x && same_ints pulses.now pulses2.now && same_ints fine.now fine2.now && same_ints
-        priorities.now priorities2.now && same_tells (tells_w y.next) (tells_r x.next)) }
+fn same_answers(y: &Shares<Writer>, x: &Shares<Reader>) -> bool
+    ensures { result ≡ (same_numbers y.now.figures x.now.figures && same_ints y.now.pulses x.now.pulses && same_ints y.now.fine x.now.fine
+        && same_ints y.now.priorities x.now.priorities && same_tells (tells_w y.now.figures.next) (tells_r x.now.figures.next)) }
 {
-    let w = y.next;
-    let d = x.next;
-    let a = shares::same_numbers(y, x);
-    let b = shares::same_ints(pulses, pulses2);
-    let c = shares::same_ints(fine, fine2);
-    let e = shares::same_ints(priorities, priorities2);
-    let f = rows::same_tells(w, d);
+    let a = shares::same_numbers(y.figures, x.figures);
+    let b = shares::same_ints(&y.pulses, &x.pulses);
+    let c = shares::same_ints(&y.fine, &x.fine);
+    let e = shares::same_ints(&y.priorities, &x.priorities);
+    let f = rows::same_tells(y.figures.next, x.figures.next);
     a & b & c & e & f
 }
 
 // Reads the allocation and compares it.
-fn same_shares(
-    y: WrittenAllocation,
-    e: Reader,
-    s: &[u8],
-    q: AllocNumbers,
-    offsets: &[i32],
-    caps: &[i32],
-    pulses: &[i32],
-    fine: &[i32],
-    priorities: &[i32],
-) -> bool
-    requires { (length pulses.now ≡ 21) × (length fine.now ≡ 21) × (length priorities.now ≡ 21) }
-    ensures { result ≡ shares_agree q offsets.now caps.now y (lists pulses.now fine.now priorities.now)
-        s.now e }
+fn same_shares(y: &Shares<Writer>, e: Reader, s: &[u8], asked: Asked) -> bool
+    ensures { result ≡ shares_agree asked.entry.q asked.entry.offsets.now asked.entry.caps.now y.now.figures
+        (lists y.now.pulses y.now.fine y.now.priorities) s.now e }
 {
-    let mut pulses2 = [0i32; 21];
-    let mut fine2 = [0i32; 21];
-    let mut priorities2 = [0i32; 21];
+    let mut pulses = [0i32; 21];
+    let mut fine = [0i32; 21];
+    let mut priorities = [0i32; 21];
     let answer = rate::clt_compute_allocation_read(
         e,
         s,
-        q,
-        offsets,
-        caps,
-        &mut pulses2,
-        &mut fine2,
-        &mut priorities2,
+        asked.q,
+        asked.offsets,
+        asked.caps,
+        &mut pulses,
+        &mut fine,
+        &mut priorities,
     );
     match answer {
-        AllocRead::Done(x) => same_answers(
+        Ok(figures) => same_answers(
             y,
-            x,
-            pulses,
-            fine,
-            priorities,
-            &pulses2,
-            &fine2,
-            &priorities2,
+            &Shares {
+                figures,
+                pulses,
+                fine,
+                priorities,
+            },
         ),
-        AllocRead::Refused(_) => false,
+        Err(_) => false,
     }
 }
 
 // Reads the symbols with d, beside a second writing of them over buf, and compares; then the allocation.
-fn read_on(
-    w: Writer,
-    y: WrittenAllocation,
-    d: Reader,
-    buf: &mut [u8],
-    s: &[u8],
-    symbols: &[u32],
-    tables: &[u8],
-    q: AllocNumbers,
-    offsets: &[i32],
-    caps: &[i32],
-    pulses: &[i32],
-    fine: &[i32],
-    priorities: &[i32],
-) -> bool
-    requires { (length pulses.now ≡ 21) × (length fine.now ≡ 21) × (length priorities.now ≡ 21) }
+fn read_on(w: Writer, y: &Shares<Writer>, d: Reader, buf: &mut [u8], s: &[u8], asked: Asked) -> bool
     ensures { result ≡ (same_tells (tells_w w) (tells_r d)
-        && row_agrees q offsets.now caps.now y (lists pulses.now fine.now priorities.now) s.now
-        (write_all (symbols_of symbols.now tables.now) (wr w buf.old))
-        (read_all (kinds (symbols_of symbols.now tables.now)) s.now d)) }
+        && row_agrees asked.entry.q asked.entry.offsets.now asked.entry.caps.now y.now.figures (lists y.now.pulses y.now.fine y.now.priorities) s.now
+        (write_all (symbols_of asked.entry.symbols.now asked.entry.tables.now) (wr w buf.old))
+        (read_all (kinds (symbols_of asked.entry.symbols.now asked.entry.tables.now)) s.now d)) }
 {
     let first = rows::same_tells(w, d);
-    let answer = rows::pair_row(w, buf, d, s, symbols, tables);
-    match answer {
-        Pairs::Same(p) => {
-            let e = p.reader;
-            first & same_shares(y, e, s, q, offsets, caps, pulses, fine, priorities)
-        }
-        Pairs::Differs => false,
+    match rows::pair_row(w, buf, d, s, asked.symbols, asked.tables) {
+        Some(p) => first & same_shares(y, p.reader, s, asked),
+        None => false,
     }
 }
 
 // Reads the packet s, with a copy of the bytes for the second writing.
 fn read_back(
     w: Writer,
-    y: WrittenAllocation,
+    y: &Shares<Writer>,
     bytes: &[u8],
     buf: &mut [u8],
     s: &[u8],
-    symbols: &[u32],
-    tables: &[u8],
-    q: AllocNumbers,
-    offsets: &[i32],
-    caps: &[i32],
-    pulses: &[i32],
-    fine: &[i32],
-    priorities: &[i32],
+    asked: Asked,
 ) -> bool
-    requires { (length buf.old ≡ length bytes.now) × (length pulses.now ≡ 21) × (length fine.now ≡ 21) × (length priorities.now ≡ 21) }
-    ensures { result ≡ agrees q offsets.now caps.now (symbols_of symbols.now tables.now) w
-        (write_all (symbols_of symbols.now tables.now) (wr w bytes.now)) y
-        (lists pulses.now fine.now priorities.now) s.now }
+    requires { length buf.old ≡ length bytes.now }
+    ensures { result ≡ agrees asked.entry.q asked.entry.offsets.now asked.entry.caps.now (symbols_of asked.entry.symbols.now asked.entry.tables.now) w
+        (write_all (symbols_of asked.entry.symbols.now asked.entry.tables.now) (wr w bytes.now)) y.now.figures
+        (lists y.now.pulses y.now.fine y.now.priorities) s.now }
 {
-    shares::copy(bytes, buf);
-    let answer = Reader::new(s);
-    match answer {
-        Started::Done(d) => read_on(
-            w, y, d, buf, s, symbols, tables, q, offsets, caps, pulses, fine, priorities,
-        ),
-        Started::Refused(_) => false,
+    buf.copy_from_slice(bytes);
+    match Reader::new(s) {
+        Ok(d) => read_on(w, y, d, buf, s, asked),
+        Err(_) => false,
     }
 }
 
+// Room for a copy, as in `sends::begin`: a function over both would take the next step as a closure with its whole contract.
 // Does the reader of the packet s agree?
-pub fn compare(
-    w: Writer,
-    y: WrittenAllocation,
-    bytes: &[u8],
-    s: &[u8],
-    symbols: &[u32],
-    tables: &[u8],
-    q: AllocNumbers,
-    offsets: &[i32],
-    caps: &[i32],
-    pulses: &[i32],
-    fine: &[i32],
-    priorities: &[i32],
-) -> bool
-    requires { (length bytes.now ≤ 1275) × (length pulses.now ≡ 21) × (length fine.now ≡ 21) × (length priorities.now ≡ 21) }
-    ensures { result ≡ agrees q offsets.now caps.now (symbols_of symbols.now tables.now) w
-        (write_all (symbols_of symbols.now tables.now) (wr w bytes.now)) y
-        (lists pulses.now fine.now priorities.now) s.now }
+pub fn compare(w: Writer, y: &Shares<Writer>, bytes: &[u8], s: &[u8], asked: Asked) -> bool
+    requires { length bytes.now ≤ 1275 }
+    ensures { result ≡ agrees asked.entry.q asked.entry.offsets.now asked.entry.caps.now (symbols_of asked.entry.symbols.now asked.entry.tables.now) w
+        (write_all (symbols_of asked.entry.symbols.now asked.entry.tables.now) (wr w bytes.now)) y.now.figures
+        (lists y.now.pulses y.now.fine y.now.priorities) s.now }
 {
     let n = bytes.len();
     let mut room = [0u8; 1275];
-    read_back(
-        w,
-        y,
-        bytes,
-        &mut room[..n],
-        s,
-        symbols,
-        tables,
-        q,
-        offsets,
-        caps,
-        pulses,
-        fine,
-        priorities,
-    )
+    read_back(w, y, bytes, &mut room[..n], s, asked)
 }

@@ -1,26 +1,60 @@
 // Symbols as they are lent: five numbers for each in one list, and the entries of all tables in another.
 ghost use Rattle.std.specs.Prelude.{◌≡◌, ◌/◌, ◌<◌, length, take, drop};
+ghost use Rattle.entcode.specs.Said.{said, verdict};
 ghost use Rattle.laplace.specs.Model.{code_of, value_at};
-ghost use Rattle.trip_call.specs.Given.{given_at, given_ok, givens_ok, refusal_given};
+ghost use Rattle.trip_call.specs.Given.{given_at, given_ok, givens_ok, kind_read, refusal_given};
+ghost use Rattle.trip_call.specs.Steps.{lap_counted};
+
+use entcode::{Coded, Refusal};
+
+// What a symbol is.
+#[derive(Clone, Copy, Debug, PartialEq, Eq)]
+pub enum Kind {
+    Bit,
+    Table,
+    Uniform,
+    Raw,
+    Laplace,
+}
+
+impl TryFrom<u32> for Kind {
+    type Error = Refusal;
+
+    ghost try_from_gives = { λ n r. r ≡ kind_read n };
+
+    fn try_from(n: u32) -> Result<Kind, Refusal> {
+        match n {
+            0 => Ok(Kind::Bit),
+            1 => Ok(Kind::Table),
+            2 => Ok(Kind::Uniform),
+            3 => Ok(Kind::Raw),
+            4 => Ok(Kind::Laplace),
+            _ => Err(Refusal::Number),
+        }
+    }
+}
 
 // A symbol: its kind, the count of its value, and up to three numbers that the kind has.
 #[derive(Clone, Copy)]
 pub struct Given {
-    pub kind: u32,
+    pub kind: Kind,
     pub count: u32,
     pub first: u32,
     pub second: u32,
     pub third: u32,
 }
 
-// Symbol i.
+// The count of a symbol's value, and the reader after it, or the writer.
+pub type Counted<C> = Coded<u32, C>;
+
+// Symbol i. A number that is no kind is refused before any symbol is coded; here it counts as Laplace, as `kind_of` says.
 pub fn given_at(symbols: &[u32], i: usize) -> Given
     requires { i < length symbols.now / 5 }
     ensures { result ≡ given_at symbols.now i }
 {
     let k = 5 * i;
     Given {
-        kind: symbols[k],
+        kind: Kind::try_from(symbols[k]).unwrap_or(Kind::Laplace),
         count: symbols[k + 1],
         first: symbols[k + 2],
         second: symbols[k + 3],
@@ -28,39 +62,41 @@ pub fn given_at(symbols: &[u32], i: usize) -> Given
     }
 }
 
-// Is the symbol's kind one there is, and a table's part within the entries that are lent?
-fn given_ok(room: usize, g: Given) -> bool
-    ensures { result ≡ given_ok room g }
+// Is the kind of symbol i one there is, and a table's part within the entries that are lent?
+fn given_ok(symbols: &[u32], i: usize, room: usize) -> bool
+    requires { i < length symbols.now / 5 }
+    ensures { result ≡ given_ok room symbols.now i }
 {
-    let end = g.second as usize + g.third as usize;
-    (g.kind <= 4) & ((g.kind != 1) | (end <= room))
+    let k = 5 * i;
+    let end = symbols[k + 3] as usize + symbols[k + 4] as usize;
+    match Kind::try_from(symbols[k]) {
+        Ok(Kind::Table) => end <= room,
+        Ok(_) => true,
+        Err(_) => false,
+    }
 }
 
 // Are all symbols?
 fn givens_ok(symbols: &[u32], room: usize) -> bool
     ensures { result ≡ givens_ok symbols.now room (length symbols.now / 5) 0 }
 {
-    let n = symbols.len() / 5;
-    let mut i: usize = 0;
-    while i < n {
-        let g = given_at(symbols, i);
-        if !given_ok(room, g) {
+    for i in 0..symbols.len() / 5 {
+        if !given_ok(symbols, i, room) {
             return false;
         }
-        i += 1;
     }
     true
 }
 
-// The number of the refusal of lent symbols, 0 for none: the length before any entry is read.
-pub fn refusal(symbols: &[u32], tables: &[u8]) -> u32
-    ensures { result ≡ refusal_given symbols.now tables.now }
+// The refusal of lent symbols: the length before any entry is read.
+pub fn refusal(symbols: &[u32], tables: &[u8]) -> Result<(), Refusal>
+    ensures { verdict result ≡ refusal_given symbols.now tables.now }
 {
     if symbols.len() % 5 == 0 {
         let known = givens_ok(symbols, tables.len());
-        return entcode::refusal_of(true, known, true, 0, true, true);
+        return entcode::refusal_of(true, known, true, Ok(()), true, true);
     }
-    entcode::refusal_of(false, true, true, 0, true, true)
+    entcode::refusal_of(false, true, true, Ok(()), true, true)
 }
 
 // A table's entries: count of them, from a place on, as far as the list goes.
@@ -100,4 +136,15 @@ pub fn count_of(value: i32) -> u32
         return (n - 1) * 2 + 1;
     }
     2 * n
+}
+
+// The answer of a call that reads a Laplace value, or may adjust the one that it writes.
+pub fn counted<C>(answer: Result<Coded<i32, C>, Refusal>) -> Result<Counted<C>, Refusal>
+    ensures { said result ≡ lap_counted (said answer) }
+{
+    let y = answer?;
+    Ok(Coded {
+        value: count_of(y.value),
+        next: y.next,
+    })
 }

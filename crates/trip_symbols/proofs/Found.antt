@@ -11,7 +11,7 @@ use Rattle.laws.proofs.Tests.{split_on}
 use Rattle.entcode.specs.Sym.{Model, Shape, bit_model, table_model, flat_model, low_bits, upper, pieces_of}
 use Rattle.entcode.specs.Sym.Shape.{bit, table, uint, raw, modelled}
 use Rattle.entdec.specs.declared.Reader.{Reader}
-use Rattle.entdec.specs.declared.ReadSymbol.{ReadSymbol}
+use Rattle.entdec.specs.Coded.{ReadSymbol}
 use Rattle.entdec.specs.Read.{read_of, read_bits}
 use Rattle.entdec.specs.Symbols.{read_one, within, read_long, read_sym}
 use Rattle.entcode.proofs.Pieces.{uint-few}

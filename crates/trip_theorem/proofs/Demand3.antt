@@ -1,5 +1,6 @@
 -- Document 01's third demand: what an encoder wrote and closed without error a decoder reads, and both come to the definition's allocation.
 -- Assumes nothing.
+use Rattle.std.specs.Prelude.{Ok}
 use Prim.Native.Nat.{ℕ, ◌-◌, ◌≤◌}
 use mathlib.Core.Path.{◌≡◌, refl, ap, subst, sym, ◌∙◌}
 use mathlib.Core.Bool.{true, false}
@@ -24,8 +25,7 @@ use Rattle.rate.specs.declared.AllocNumbers.{AllocNumbers}
 use Rattle.rate.specs.declared.Wishes.{Wishes}
 use Rattle.rate.specs.Question.{Lists, alloc_input, entries_ok, numbers_ok, refusal_read, sized}
 use Rattle.rate.specs.Answer.{answer_read, after_read, with_figure, lists_of, read_alloc, read_figures, write_wished, written_figures}
-use Rattle.rate.specs.declared.AllocRead.TheVariants as alloc_read
-use Rattle.rate.specs.declared.WrittenAllocation.{WrittenAllocation}
+use Rattle.rate.specs.Allocations.{WrittenAllocation}
 use Rattle.rate.proofs.Accepts.{sized as sizes-of}
 use Rattle.rate.proofs.Coded.{write_traced, write_replayed, read_follows}
 use Rattle.entenc.specs.Symbols.{write_syms}
@@ -102,7 +102,7 @@ same_in a o figure x y p q h j l u =
 
 -- number 0: the allocation is the answer
 done-read : (n : ℕ) (a : AllocIn) (x : AllocOut × Reader) (l : Lists) → n ≡ 0
-    → answer_read n a x l ≡ after_read (alloc_read.Done (read_figures x)) (lists_of a x.0 l)
+    → answer_read n a x l ≡ after_read (Ok (read_figures x)) (lists_of a x.0 l)
 unfolding answer_read answer lent_after
 done-read n a x l z = rw z
 
@@ -151,7 +151,7 @@ module _ (bytes : List ℕ) (ys : List Symbol) (q : AllocNumbers) (offsets caps 
         lists = lists_of a o m;
         allots =
             done-read (refusal_read q offsets caps m k.packet d) a (read_alloc a k.packet d) m f
-            ∙ ap (λ (y : AllocOut × Reader). after_read (alloc_read.Done (read_figures y)) (lists_of a y.0 m)) s;
+            ∙ ap (λ (y : AllocOut × Reader). after_read (Ok (read_figures y)) (lists_of a y.0 m)) s;
         coded = ap (λ (y : WrittenAllocation). y.coded) (sym u);
         balance = ap (λ (y : WrittenAllocation). y.balance) (sym u);
         intensity = ap (λ (y : WrittenAllocation). y.intensity) (sym u);

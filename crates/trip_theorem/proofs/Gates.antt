@@ -1,4 +1,5 @@
 -- What an accepted call tells: a new writer, an allocation, a close. Assumes nothing.
+use Rattle.std.specs.Prelude.{Ok}
 use Prim.Native.Nat.{ℕ, zero, suc, ◌≤◌}
 use mathlib.Core.Path.{◌≡◌, refl, ap}
 use mathlib.Core.Bool.{Bool, true, false, cond, and-eq-true_iff}
@@ -15,7 +16,6 @@ use Rattle.entcode.proofs.Refusals.{passed}
 use Rattle.entdec.specs.Answer.{start_of as reader_over}
 use Rattle.entdec.specs.Read.{fresh_reader}
 use Rattle.entenc.specs.declared.Writer.{Writer}
-use Rattle.entenc.specs.declared.WriteAnswer.TheVariants.{Done}
 use Rattle.entenc.specs.Answer.{start_of as writer_over, After, after, answer_w, closing}
 use Rattle.entenc.specs.Close.{close_w}
 use Rattle.entenc.specs.Rule.{writer_ok, write_refusal, refusal_close}
@@ -26,8 +26,7 @@ use Rattle.rate_spec.specs.Domain.{AllocInOk}
 use Rattle.rate_bands.proofs.Frames.{in_ok}
 use Rattle.rate.specs.declared.AllocNumbers.{AllocNumbers}
 use Rattle.rate.specs.declared.Wishes.{Wishes}
-use Rattle.rate.specs.declared.WrittenAllocation.{WrittenAllocation}
-use Rattle.rate.specs.declared.AllocWrote.TheVariants as alloc_written
+use Rattle.rate.specs.Allocations.{WrittenAllocation}
 use Rattle.rate.specs.Question.{Lists, alloc_input, entries_ok, numbers_ok, refusal_write, sized}
 use Rattle.rate.specs.Answer.{AfterWrite, after_write, answer_written, lists_of, write_wished, writing, written_figures}
 use Rattle.rate.proofs.Accepts.{counts-ok, lists-ok}
@@ -64,7 +63,7 @@ record Shut (n : ℕ) (v : Wr) (last : Writer) (packet : List ℕ) : Type 0 wher
   bytes : packet ≡ v.bytes
 
 -- an accepted answer has number 0, and is what was written
-shut : (n : ℕ) (w v : Wr) (last : Writer) (packet : List ℕ) → answer_w n w v ≡ after (Done last) packet → Shut n v last packet
+shut : (n : ℕ) (w v : Wr) (last : Writer) (packet : List ℕ) → answer_w n w v ≡ after (Ok last) packet → Shut n v last packet
 unfolding answer lent_after
 shut zero w v last packet e =
     let p : done v.st ≡ done last = ap (λ (x : After). x.said) e in
@@ -76,7 +75,7 @@ shut (suc n) w v last packet e =
     absurd (omega arith)
 
 -- every accepted close is one
-pub closed : (w : Wr) (last : Writer) (packet : List ℕ) → closing w ≡ after (Done last) packet → Closed w last packet
+pub closed : (w : Wr) (last : Writer) (packet : List ℕ) → closing w ≡ after (Ok last) packet → Closed w last packet
 closed w last packet e =
     let s = shut (refusal_close w) w (close_w w) last packet e in
     record { rule = (close-taken w s.none).0; state = s.state; bytes = s.bytes }
@@ -92,7 +91,7 @@ record Gave (n : ℕ) (a : AllocIn) (o : AllocOut × Wr) (l : Lists) (y : Writte
 
 -- an accepted allocation has number 0, and its figures, lists and bytes are the definition's
 gave : (n : ℕ) (a : AllocIn) (o : AllocOut × Wr) (l : Lists) (w : Wr) (y : WrittenAllocation) (m : Lists) (b : List ℕ)
-    → answer_written n a o l w ≡ after_write (alloc_written.Done y) m b → Gave n a o l y m b
+    → answer_written n a o l w ≡ after_write (Ok y) m b → Gave n a o l y m b
 unfolding answer_written answer lent_after
 gave zero a o l w y m b e =
     let p : done (written_figures o) ≡ done y = ap (λ (x : AfterWrite). x.said) e in
@@ -118,7 +117,7 @@ pub record Allotted (q : AllocNumbers) (h : Wishes) (offsets caps : List ℤ) (w
 
 -- every accepted allocation is one
 pub allotted : (q : AllocNumbers) (h : Wishes) (offsets caps : List ℤ) (w : Wr) (l : Lists) (y : WrittenAllocation) (m : Lists) (b : List ℕ)
-    → writing q h offsets caps w l ≡ after_write (alloc_written.Done y) m b → Allotted q h offsets caps w l y m b
+    → writing q h offsets caps w l ≡ after_write (Ok y) m b → Allotted q h offsets caps w l y m b
 unfolding refusal_write write_refusal
 allotted q h offsets caps w l y m b e =
     let g = gave (refusal_write q offsets caps l h w) (alloc_input q offsets caps) (write_wished (alloc_input q offsets caps) h w) l w y m b e in

@@ -14,7 +14,7 @@ use Rattle.entcode.specs.Said.{answer, lent_after}
 use Rattle.entcode.specs.Sym.{Shape, Sym, sym_of, adjust, length_ok, shape_ok, list_ok}
 use Rattle.entcode.specs.Sym.Shape.{bit as bit_shape, table as table_shape, uint as uniform_shape, raw as raw_shape}
 use Rattle.entdec.specs.declared.Reader.{Reader}
-use Rattle.entdec.specs.declared.ReadSymbol.{ReadSymbol}
+use Rattle.entdec.specs.Coded.{ReadSymbol}
 use Rattle.entdec.specs.Symbols.{read_sym}
 use Rattle.entdec.specs.Rule.{read_refusal, refusal_r}
 use Rattle.entenc.specs.declared.Writer.{Writer}
@@ -23,7 +23,7 @@ use Rattle.entenc.specs.Answer.{answer_w}
 use Rattle.entenc.specs.Symbols.{write_sym}
 use Rattle.entenc.specs.Rule.{writer_ok, refusal_w}
 use Rattle.entenc.proofs.Taken.{taken}
-use Rattle.laplace.specs.declared.LapSym.{LapSym}
+use Rattle.laplace.specs.Coded.{LapSym}
 use Rattle.laplace.specs.Model.{value_at}
 use Rattle.laplace.specs.Answer.{lap, answer_w as answer_lap}
 use Rattle.laplace.proofs.Known.{known_parts}

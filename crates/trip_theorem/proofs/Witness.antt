@@ -1,4 +1,5 @@
 -- The example is sent: every call of it computed, from the new writer to a close without error. Assumes nothing.
+use Rattle.std.specs.Prelude.{Ok}
 use mathlib.Core.Path.{◌≡◌, refl, ap, sym}
 use mathlib.Core.Bool.{Bool, true, false, true≢false}
 use mathlib.Core.List.{List, []}
@@ -54,13 +55,11 @@ use Rattle.trip_theorem.specs.Calls.{write_call}
 use Rattle.trip_theorem.specs.Rows.{write_all}
 use Rattle.trip_theorem.specs.Example.{example_bytes, example_lists, example_symbols, example_numbers, example_boosts, example_caps, example_wishes}
 use Rattle.entenc.specs.declared.Writer.{Writer}
-use Rattle.entenc.specs.declared.WriteAnswer.TheVariants as answered
 use Rattle.entenc.specs.Answer.{start_of as writer_over, After, after, closing}
 use Rattle.entenc.specs.Write.{Wr, fresh_writer, wr}
-use Rattle.rate.specs.declared.WrittenAllocation.{WrittenAllocation}
-use Rattle.rate.specs.declared.AllocWrote.TheVariants as alloc_written
+use Rattle.rate.specs.Allocations.{WrittenAllocation}
 use Rattle.rate_spec.specs.Types.{AllocOut}
-use Rattle.rate.specs.Answer.{AfterWrite, after_write, answer_written, writing, written_numbers}
+use Rattle.rate.specs.Answer.{AfterWrite, after_write, answer_written, writing, numbers}
 use Rattle.trip_theorem.specs.Calls.{Symbol, Tells}
 use Rattle.trip_theorem.specs.Rows.{WriteRow}
 use Rattle.trip_theorem.specs.Rows.WriteRow.{write_row, write_row_refused}
@@ -85,7 +84,7 @@ answer-is (done w) e = refl
 answer-is (refused n) e = absurd (true≢false (sym e))
 
 -- an accepted close gave its writer and its bytes
-close-is : (x : After) → accepted x.said ≡ true → x ≡ after (answered.Done (writer_in x.said)) x.bytes
+close-is : (x : After) → accepted x.said ≡ true → x ≡ after (Ok (writer_in x.said)) x.bytes
 close-is x e = ap (λ (r : Said Writer). record { said = r; bytes = x.bytes }) (answer-is x.said e)
 
 -- whether a row was accepted
@@ -121,7 +120,7 @@ allotted (refused n) = false
 -- its figures
 abbrev shares_in : Said WrittenAllocation → WrittenAllocation
 shares_in (done y) = y
-shares_in (refused n) = written_numbers 0 0 0 false (fresh_writer 0)
+shares_in (refused n) = numbers 0 0 0 false (fresh_writer 0)
 
 -- an accepted allocation gave its figures
 shares-is : (r : Said WrittenAllocation) → allotted r ≡ true → r ≡ done (shares_in r)
@@ -129,7 +128,7 @@ shares-is (done y) e = refl
 shares-is (refused n) e = absurd (true≢false (sym e))
 
 -- and its lists and bytes
-written_is : (x : AfterWrite) → allotted x.said ≡ true → x ≡ after_write (alloc_written.Done (shares_in x.said)) x.lent x.bytes
+written_is : (x : AfterWrite) → allotted x.said ≡ true → x ≡ after_write (Ok (shares_in x.said)) x.lent x.bytes
 written_is x e = ap (λ (r : Said WrittenAllocation). record { said = r; lent = x.lent; bytes = x.bytes }) (shares-is x.said e)
 
 -- ---- the calls of the example

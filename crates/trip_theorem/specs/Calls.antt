@@ -8,15 +8,14 @@ use Rattle.entcode.specs.Tell.{tell_of, tell_frac_of}
 use Rattle.entcode.specs.Sym.{Shape}
 use Rattle.entcode.specs.Sym.Shape.{bit as bit_shape, table as table_shape, uint as uniform_shape, raw as raw_shape}
 use Rattle.entdec.specs.declared.Reader.{Reader}
-use Rattle.entdec.specs.declared.ReadSymbol.{ReadSymbol}
+use Rattle.entdec.specs.Coded.{ReadSymbol}
 use Rattle.entdec.specs.Symbols.{read_sym}
 use Rattle.entdec.specs.Rule.{reader_ok, refusal_r}
 use Rattle.entenc.specs.declared.Writer.{Writer}
 use Rattle.entenc.specs.Write.{Wr, wr}
 use Rattle.entenc.specs.Answer.{writing}
 use Rattle.entenc.specs.Rule.{writer_ok}
-use Rattle.laplace.specs.declared.LapSym.{LapSym}
-use Rattle.laplace.specs.declared.LapDone.{LapDone}
+use Rattle.laplace.specs.Coded.{LapSym, LapDone}
 use Rattle.laplace.specs.Answer as laplace_calls
 use Rattle.laplace.specs.Model.{code_of}
 

@@ -1,12 +1,11 @@
 -- Document 01's third demand: what is written and closed without error is read back, and reader and writer come to the same allocation. Every
 -- call stands here as its contract states it.
-use Rattle.std.specs.Prelude.{ℕ, ◌≤◌, ◌<◌, ◌≡◌, false, List, ℤ, pos, get_or, length}
+use Rattle.std.specs.Prelude.{ℕ, ◌≤◌, ◌<◌, ◌≡◌, false, List, ℤ, pos, get_or, length, Ok}
 use Rattle.laws.specs.Lists.{Bytes}
 use Rattle.entcode.specs.Said.Said.{done}
 use Rattle.entdec.specs.declared.Reader.{Reader}
 use Rattle.entdec.specs.Answer.{start_of as reader_over}
 use Rattle.entenc.specs.declared.Writer.{Writer}
-use Rattle.entenc.specs.declared.WriteAnswer.TheVariants.{Done}
 use Rattle.entenc.specs.Answer.{start_of as writer_over, after, closing}
 use Rattle.entenc.specs.Write.{Wr, wr}
 use Rattle.rate_spec.specs.Types.{AllocIn, AllocOut}
@@ -15,10 +14,7 @@ use Rattle.rate_spec.specs.Written.{written}
 use Rattle.rate_skip.specs.Asks.{write_bit, write_below}
 use Rattle.rate.specs.declared.AllocNumbers.{AllocNumbers}
 use Rattle.rate.specs.declared.Wishes.{Wishes}
-use Rattle.rate.specs.declared.ReadAllocation.{ReadAllocation}
-use Rattle.rate.specs.declared.WrittenAllocation.{WrittenAllocation}
-use Rattle.rate.specs.declared.AllocRead.TheVariants as alloc_read
-use Rattle.rate.specs.declared.AllocWrote.TheVariants as alloc_written
+use Rattle.rate.specs.Allocations.{ReadAllocation, WrittenAllocation}
 use Rattle.rate.specs.Question.{Lists, alloc_input}
 use Rattle.rate.specs.Answer.{after_read, after_write, lists_of, read_figures, reading, write_wished, writing, written_figures}
 use Rattle.trip_theorem.specs.Calls.{Symbol, Tells, tells_r, tells_w}
@@ -52,11 +48,11 @@ module _ (bytes : List ℕ) (ys : List Symbol) (q : AllocNumbers) (offsets caps 
     pub shares : WrittenAllocation
     pub lists : Lists
     pub filled : List ℕ
-    pub allots : writing q h offsets caps row l ≡ after_write (alloc_written.Done shares) lists filled
+    pub allots : writing q h offsets caps row l ≡ after_write (Ok shares) lists filled
     -- close was accepted and reported no error
     pub last : Writer
     pub packet : List ℕ
-    pub closes : closing (wr shares.next filled) ≡ after (Done last) packet
+    pub closes : closing (wr shares.next filled) ≡ after (Ok last) packet
     pub fits : last.sink.error ≡ false
 
   -- What then holds of a reader that is lent the lists m
@@ -74,7 +70,7 @@ module _ (bytes : List ℕ) (ys : List Symbol) (q : AllocNumbers) (offsets caps 
       -- it accepts the allocation with the same shared inputs
       pub shares : ReadAllocation
       pub lists : Lists
-      pub allots : reading q offsets caps k.packet row m ≡ after_read (alloc_read.Done shares) lists
+      pub allots : reading q offsets caps k.packet row m ≡ after_read (Ok shares) lists
       -- and gets the same
       pub coded : shares.coded ≡ k.shares.coded
       pub balance : shares.balance ≡ k.shares.balance
@@ -112,7 +108,7 @@ module _ (bytes : List ℕ) (ys : List Symbol) (q : AllocNumbers) (offsets caps 
     pub shares : WrittenAllocation
     pub lists : Lists
     pub filled : List ℕ
-    pub allots : writing q g offsets caps k.row m ≡ after_write (alloc_written.Done shares) lists filled
+    pub allots : writing q g offsets caps k.row m ≡ after_write (Ok shares) lists filled
     pub same_writer : shares.next ≡ k.shares.next
     pub same_bytes : filled ≡ k.filled
 
@@ -148,7 +144,7 @@ module _ (bytes : List ℕ) (ys : List Symbol) where
     pub writes : write_all ys (wr first bytes) ≡ write_row row zs ts
     pub last : Writer
     pub packet : List ℕ
-    pub closes : closing row ≡ after (Done last) packet
+    pub closes : closing row ≡ after (Ok last) packet
     pub unmarked : last.sink.error ≡ false
 
   module _ (k : RowSent) where

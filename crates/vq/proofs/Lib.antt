@@ -5,7 +5,6 @@ pub mod Spacing
 pub mod Nearer
 pub mod Only
 pub mod Refusing
-pub mod Said
 pub mod Vectors
 pub mod Masks
 pub mod Finite

@@ -1,4 +1,5 @@
 -- What the refusals tell: the domain as facts, the call's own numbers, and the answers by the number. Assumes nothing.
+use Rattle.std.specs.Prelude.{Ok}
 use Prim.Native.Nat.{ℕ, zero, suc, ◌*◌, ◌%◌, ◌≤◌, ◌<◌}
 use mathlib.Core.Path.{◌≡◌, refl}
 use mathlib.Core.Bool.{Bool, true, false, ◌&&◌, and-eq-true_iff}
@@ -12,13 +13,13 @@ use borrow.Author.Tests.{lt-ltb, le-ltb, eqb-true}
 use Rattle.laws.specs.Signs.{clip, in_range}
 use Rattle.laws.proofs.Tests.{by_le}
 use Rattle.laws.proofs.Signs.{CountIn, range_count}
+use Rattle.entcode.specs.Said.Said.{refused}
 use Rattle.entcode.specs.Said.{answer, lent_after}
 use Rattle.entdec.specs.declared.Reader.{Reader}
 use Rattle.entdec.specs.Rule.{reader_ok, read_refusal}
 use Rattle.cwrs_counts.specs.Count.{Vn}
 use Rattle.cwrs.proofs.Refusing.{late}
 use Rattle.vq.specs.declared.ReadShape.{ReadShape}
-use Rattle.vq.specs.declared.Shaped.TheVariants.{Done, Refused}
 use Rattle.vq.specs.Answer.{length_ok, numbers_ok, special_shape, after, answer_r}
 
 -- ---- the domain
@@ -91,12 +92,12 @@ late_special m d lengths numbers lists {special} {p} e = late (eqb d.storage m) 
 -- ---- the answers by the number
 
 -- number 0: what was read, and its shape
-pub answer_got : (m : ℕ) (r : ReadShape) (v x : List Float) → m ≡ 0 → after (Done r) v ≡ answer_r m r v x
+pub answer_got : (m : ℕ) (r : ReadShape) (v x : List Float) → m ≡ 0 → after (Ok r) v ≡ answer_r m r v x
 unfolding answer lent_after
 answer_got m r v x e = rw e
 
 -- any other: the refusal, and the shape as it was
-pub answer-refused : (m : ℕ) (r : ReadShape) (v x : List Float) → (m ≡ 0 → ⊥) → after (Refused m) x ≡ answer_r m r v x
+pub answer-refused : (m : ℕ) (r : ReadShape) (v x : List Float) → (m ≡ 0 → ⊥) → record { said = refused m; shape = x } ≡ answer_r m r v x
 unfolding answer lent_after
 answer-refused zero r v x h = absurd (h refl)
 answer-refused (suc m) r v x h = refl

@@ -1,10 +1,10 @@
 -- What the call is asked, when it is refused and what it says, by document 01's number and the values, and what the lent shape then holds.
-use Rattle.std.specs.Prelude.{ℕ, ◌*◌, ◌%◌, Bool, cond, ◌&&◌, List, ltb, eqb, ℤ, pos, length, Float}
+use Rattle.std.specs.Prelude.{ℕ, ◌*◌, ◌%◌, Bool, cond, ◌&&◌, List, ltb, eqb, ℤ, pos, length, Float, Result}
+use Rattle.entcode.specs.declared.reasons.Refusal.{Refusal}
 use Rattle.std.specs.Int.Signed.{le_z}
 use Rattle.std.specs.Float.Ieee.{neg, le}
 use Rattle.laws.specs.Signs.{clip, in_range}
-use Rattle.entcode.specs.Said.{Said, answer, lent_after}
-use Rattle.entcode.specs.Said.Said.{done, refused}
+use Rattle.entcode.specs.Said.{Said, answer, lent_after, said}
 use Rattle.entdec.specs.declared.Reader.{Reader}
 use Rattle.entdec.specs.Rule.{read_refusal}
 use Rattle.cwrs_counts.specs.Count.{Vn}
@@ -12,8 +12,6 @@ use Rattle.cwrs.specs.Answer.{read_index, read_word}
 use Rattle.vq.specs.Shape.{float_one, shape_of}
 use Rattle.vq.specs.Mask.{collapse}
 use Rattle.vq.specs.declared.ReadShape.{ReadShape}
-use Rattle.vq.specs.declared.Shaped.{Shaped}
-use Rattle.vq.specs.declared.Shaped.TheVariants.{Done, Refused}
 
 -- what the call is asked, as it is handed in
 pub record ShapeRequest : Type 0 where
@@ -61,18 +59,13 @@ refusal_shape q places s d =
 abbrev pub read_shape_of : ℕ → ℕ → ℕ → List ℕ → Reader → ReadShape
 read_shape_of n k b s d = record { mask = collapse b (read_word n k s d); next = (read_index n k s d).next }
 
--- what an answer says
-abbrev pub said : Shaped → Said ReadShape
-said (Done r) = done r
-said (Refused m) = refused m
-
 -- what is said, and the lent shape after the call
 pub record After : Type 0 where
   pub said : Said ReadShape
   pub shape : List Float
 
 -- made of its two parts
-abbrev pub after : Shaped → List Float → After
+abbrev pub after : Result ReadShape Refusal → List Float → After
 after r x = record { said = said r; shape = x }
 
 -- number 0: what was read, with its shape; any other: that refusal, and the shape as it was

@@ -1,10 +1,12 @@
 // What reading a shape is refused with: document 01, "Domain in numbers" and "When the answer is no".
 ghost use Rattle.std.specs.Prelude.{◌≡◌, cond, ◌&&◌, ◌≤◌, pos};
 ghost use Rattle.laws.specs.Signs.{clip, in_range};
+ghost use Rattle.entcode.specs.Said.{verdict};
 ghost use Rattle.entdec.specs.Rule.{read_refusal};
 ghost use Rattle.vq.specs.Answer.{length_ok, parts_ok, numbers_ok, gain_ok, special_shape};
 
 use cwrs_counts::pvq_v;
+use entcode::Refusal;
 use entdec::Reader;
 use laws::{clipped, in_range};
 
@@ -40,32 +42,32 @@ pub fn gain_ok(gain: f32) -> bool
     (-1.0 <= gain) & (gain <= 1.0)
 }
 
-// 7 where V(n, k) is 2^32 or more, and then 9 where a rotation would be due.
-fn due(n: usize, k: usize, spread: u32) -> u32
+// Are there 2^32 vectors or more, and if not, would a rotation be due?
+fn due(n: usize, k: usize, spread: u32) -> Result<(), Refusal>
     requires { (2 ≤ n) × (n ≤ 176) × (1 ≤ k) × (k ≤ 128) }
-    ensures { result ≡ special_shape n k spread }
+    ensures { verdict result ≡ special_shape n k spread }
 {
     if pvq_v(n, k) == 0 {
-        return 7;
+        return Err(Refusal::Count);
     }
     if (2 * k < n) & (0 < spread) {
-        return 9;
+        return Err(Refusal::Rotation);
     }
-    0
+    Ok(())
 }
 
-// The same, and 0 outside the domain, where 1 is given first.
-fn special_shape(n: i32, k: i32, spread: i32) -> u32
-    ensures { result ≡ cond (in_range (pos 2) (pos 176) n && in_range (pos 1) (pos 128) k) (special_shape (clip n) (clip k) (clip spread)) 0 }
+// The same; not asked outside the domain, which is refused first.
+fn special_shape(n: i32, k: i32, spread: i32) -> Result<(), Refusal>
+    ensures { verdict result ≡ cond (in_range (pos 2) (pos 176) n && in_range (pos 1) (pos 128) k) (special_shape (clip n) (clip k) (clip spread)) 0 }
 {
     if in_range(n, 2, 176) & in_range(k, 1, 128) {
         due(clipped(n) as usize, clipped(k) as usize, clipped(spread))
     } else {
-        0
+        Ok(())
     }
 }
 
-// The number of the refusal, 0 for none, of so many bytes and places.
+// The refusal of so many bytes and places.
 pub fn refusal_shape(
     d: Reader,
     bytes: usize,
@@ -75,8 +77,9 @@ pub fn refusal_shape(
     spread: i32,
     b: i32,
     gain: f32,
-) -> u32
-    ensures { result ≡ read_refusal bytes d (length_ok n places) (numbers_ok n k spread b) (gain_ok gain) (special_shape (clip n) (clip k) (clip spread)) }
+) -> Result<(), Refusal>
+    ensures { verdict result ≡ read_refusal bytes d (length_ok n places) (numbers_ok n k spread b) (gain_ok gain)
+        (special_shape (clip n) (clip k) (clip spread)) }
 {
     let lengths = length_ok(n, places);
     let known = numbers_ok(n, k, spread, b);

@@ -4,24 +4,19 @@
 ghost use Rattle.std.specs.Prelude.{◌≡◌};
 ghost use Rattle.vq.specs.Answer.{shape_request, after, unquantised};
 
+use entcode::Refusal;
 use entdec::Reader;
 
 pub mod gate;
 pub mod root;
 pub mod work;
 
+// No `Coded`: the definitions have its number as `mask`.
 // What reading a shape gives beside it: which parts of the band hold a pulse, and the reader after it.
 #[derive(Clone, Copy)]
 pub struct ReadShape {
     pub mask: u32,
     pub next: Reader,
-}
-
-// What the call answers: what was read, or the number of the refusal.
-#[derive(Clone, Copy)]
-pub enum Shaped {
-    Done(ReadShape),
-    Refused(u32),
 }
 
 // Reads a vector of n places and k pulses from the packet s; its shape with that gain goes into the lent one.
@@ -34,17 +29,12 @@ pub fn alg_unquant(
     spread: i32,
     b: i32,
     gain: f32,
-) -> Shaped
+) -> Result<ReadShape, Refusal>
     ensures { after result shape.new ≡ unquantised (shape_request n k spread b gain) s.now d shape.old }
 {
-    let no = gate::refusal_shape(d, s.len(), shape.len(), n, k, spread, b, gain);
-    if no == 0 {
-        let places = laws::clipped(n) as usize;
-        let pulses = laws::clipped(k) as usize;
-        let parts = laws::clipped(b) as usize;
-        let r = work::unquant(d, s, shape, places, pulses, parts, gain);
-        Shaped::Done(r)
-    } else {
-        Shaped::Refused(no)
-    }
+    gate::refusal_shape(d, s.len(), shape.len(), n, k, spread, b, gain)?;
+    let places = laws::clipped(n) as usize;
+    let pulses = laws::clipped(k) as usize;
+    let parts = laws::clipped(b) as usize;
+    Ok(work::unquant(d, s, shape, places, pulses, parts, gain))
 }

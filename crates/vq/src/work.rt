@@ -1,4 +1,5 @@
 // A shape and its collapse mask from a vector of pulses, and the vector read. They test nothing; the public call does.
+// N and K stay numbers with their bounds in each contract, as in cwrs.
 ghost use Rattle.std.specs.Prelude.{◌≡◌, cond, ℕ, ◌+◌, ◌*◌, ◌≤◌, ◌<◌, ◌^◌, pos, nat_abs, length, get_or};
 ghost use Rattle.std.specs.Float.{binary32};
 ghost use Rattle.std.specs.Float.Ieee.{of_int};
@@ -25,11 +26,8 @@ fn fill(iy: &[i32], x: &mut [f32], g: f32)
     requires { (length x.old ≡ length iy.now) × ((i : ℕ) → nat_abs (get_or iy.now i (pos 0)) ≤ 16777216) }
     ensures { x.new ≡ scaled g iy.now }
 {
-    let mut i: usize = 0;
-    while i < x.len() {
-        let y = iy[i];
-        x[i] = g * whole(y);
-        i += 1;
+    for (i, v) in x.iter_mut().enumerate() {
+        *v = g * whole(iy[i]);
     }
 }
 
@@ -66,10 +64,8 @@ pub fn extract_collapse_mask(iy: &[i32], b: usize) -> u32
     }
     let m = iy.len() / b;
     let mut mask: u32 = 0;
-    let mut i: usize = 0;
-    while i < b {
+    for i in 0..b {
         mask += bit_of(iy, m, i);
-        i += 1;
     }
     mask
 }

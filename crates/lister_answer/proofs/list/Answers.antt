@@ -9,4 +9,4 @@ returns-then-out-lt-ROOM c = list-refused c.args.number c.args.line.now c.args.o
 pub returns : goal.returns
 returns c = list_done c.args.number
     c.args.line.now c.args.out.now
-    c.if-out-lt-ROOM.false c.write-n.ensures
+    c.if-out-lt-ROOM.false c.write.ensures

@@ -31,12 +31,17 @@ pub returns-then-mark-eq0 : goal.returns-then-mark-eq0
 unfolding no_entry
 returns-then-mark-eq0 c = let a = c.args in rw (eq-eqb _ _ (none-mark a.lm a.band c.mark_of-mark.ensures.0 c.if-mark-eq0.true))
 
-pub returns-then-in_range : goal.returns-then-in_range
+pub returns : goal.returns
 unfolding no_entry
-returns-then-in_range
-    c = rw (ne_eqb _ _ (some (goal.at.returns-then-in_range c).Else-mark-eq0), ← within (goal.at.returns-then-in_range c).After-in_range, c.if-in_range.true)
+returns
+    c = rw (ne_eqb _ _ (some (goal.at.returns c).Else-mark-eq0), ← within (goal.at.returns c).After-in_range, c.if-not-in_range.false)
 
-pub returns-else-in_range : goal.returns-else-in_range
+pub returns-then-not-in_range : goal.returns-then-not-in_range
 unfolding no_entry
-returns-else-in_range
-    c = rw (ne_eqb _ _ (some (goal.at.returns-else-in_range c).Else-mark-eq0), ← within (goal.at.returns-else-in_range c).After-in_range, c.if-in_range.false)
+returns-then-not-in_range
+    c = rw (
+      ne_eqb _ _ (some (goal.at.returns-then-not-in_range c).Else-mark-eq0),
+      ← within
+          (goal.at.returns-then-not-in_range c).After-in_range,
+      c.if-not-in_range.true,
+    )

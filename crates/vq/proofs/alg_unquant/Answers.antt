@@ -1,4 +1,6 @@
 -- `vq::alg_unquant`: the gate, then the work. Assumes nothing.
+use Rattle.entcode.specs.Said.{verdict}
+use Rattle.entcode.proofs.Said.{stopped-says, stopped-some}
 use mathlib.Core.Path.{◌≡◌, sym, ap, ◌∙◌}
 use lib.Dec.{lit≤}
 use lib.ListN.{length}
@@ -9,26 +11,26 @@ use Rattle.entdec.proofs.Chain.{sound_ready}
 use Rattle.vq.specs.Answer.{ShapeRequest, shape_request, length_ok, numbers_ok, gain_ok, special_shape, refusal_shape}
 use Rattle.vq.proofs.Refusing.{domain, length-is, special_fits, answer_got, answer-refused}
 use Rattle.vq.proofs.alg_unquant.Goals as goal
-use Rattle.vq.proofs.alg_unquant.Goals.{After-clipped-parts, After-clipped-places, After-clipped-pulses, After-refusal_shape-no, Start, Then-no-eq0}
+use Rattle.vq.proofs.alg_unquant.Goals.{After-clipped-parts, After-clipped-places, After-clipped-pulses, After-refusal_shape, Start, In_ok-refusal_shape}
 
 -- what the call is asked
 abbrev question : Start → ShapeRequest
 question p = let a = p.args in shape_request a.n a.k a.spread a.b a.gain
 
 -- the gate's number, in the contract's terms
-gated : (c : After-refusal_shape-no) → let a = c.args in
-    c.refusal_shape-no.result ≡ refusal_shape (question (goal.at.After-refusal_shape-no c).Start) (length a.shape.now) a.s.now a.d
+gated : (c : After-refusal_shape) → let a = c.args in
+    verdict c.refusal_shape.result ≡ refusal_shape (question (goal.at.After-refusal_shape c).Start) (length a.shape.now) a.s.now a.d
 unfolding refusal_shape
 gated c =
     let f = c.ranges in
-    rw (to_z-of_z f.n, to_z-of_z f.k, to_z-of_z f.spread, to_z-of_z f.b) at c.refusal_shape-no.ensures
+    rw (to_z-of_z f.n, to_z-of_z f.k, to_z-of_z f.spread, to_z-of_z f.b) at c.refusal_shape.ensures
 
 -- number 0
-passed : (c : Then-no-eq0) → let a = c.args in
+passed : (c : In_ok-refusal_shape) → let a = c.args in
     Open (length a.s.now) a.d (length_ok a.n (length a.shape.now)) (numbers_ok a.n a.k a.spread a.b) (gain_ok a.gain)
     (special_shape (clip a.n) (clip a.k) (clip a.spread))
 unfolding refusal_shape
-passed c = opened _ _ _ _ _ _ (sym (gated (goal.at.Then-no-eq0 c).After-refusal_shape-no) ∙ c.if-no-eq0.true)
+passed c = opened _ _ _ _ _ _ (sym (gated (goal.at.In_ok-refusal_shape c).After-refusal_shape) ∙ (ap verdict c.in_ok-refusal_shape.was))
 
 -- the numbers as counts
 places_is : (c : After-clipped-places) → c.clipped-places.result ≡ clip c.args.n
@@ -40,19 +42,19 @@ pulses-is c = c.clipped-pulses.ensures.0 ∙ ap clip (to_z-of_z c.ranges.k)
 parts_is : (c : After-clipped-parts) → c.clipped-parts.result ≡ clip c.args.b
 parts_is c = c.clipped-parts.ensures.0 ∙ ap clip (to_z-of_z c.ranges.b)
 
-pub unquant-r-requires : goal.unquant-r-requires
-unquant-r-requires c =
+pub unquant-requires : goal.unquant-requires
+unquant-requires c =
     let a = c.args in
-    let o = passed (goal.at.unquant-r-requires c).Then-no-eq0 in
+    let o = passed (goal.at.unquant-requires c).In_ok-refusal_shape in
     let q = domain a.n a.k a.spread a.b o.known in
     let n = q.places in
     let k = q.pulses in
     let b = q.parts in
     rw (
-      places_is (goal.at.unquant-r-requires c).After-clipped-places,
-      pulses-is (goal.at.unquant-r-requires c).After-clipped-pulses,
+      places_is (goal.at.unquant-requires c).After-clipped-places,
+      pulses-is (goal.at.unquant-requires c).After-clipped-pulses,
       parts_is
-          (goal.at.unquant-r-requires c).After-clipped-parts,
+          (goal.at.unquant-requires c).After-clipped-parts,
     ) (record {
       ready = sound_ready 1 a.d o.state (lit≤ tt);
       le_n = (
@@ -67,17 +69,18 @@ unquant-r-requires c =
       );
     })
 
-pub returns-then-no-eq0 : goal.returns-then-no-eq0
-returns-then-no-eq0 c =
+pub returns : goal.returns
+returns c =
     let e = rw (
-      places_is (goal.at.returns-then-no-eq0 c).After-clipped-places,
-      pulses-is (goal.at.returns-then-no-eq0 c).After-clipped-pulses,
+      places_is (goal.at.returns c).After-clipped-places,
+      pulses-is (goal.at.returns c).After-clipped-pulses,
       parts_is
-          (goal.at.returns-then-no-eq0 c).After-clipped-parts,
-    ) at c.unquant-r.ensures in
-    rw (e.0, e.1) (answer_got _ _ _ _ (sym (gated (goal.at.returns-then-no-eq0 c).After-refusal_shape-no) ∙ c.if-no-eq0.true))
+          (goal.at.returns c).After-clipped-parts,
+    ) at c.unquant.ensures in
+    rw (e.0, e.1) (answer_got _ _ _ _ (sym (gated (goal.at.returns c).After-refusal_shape) ∙ (ap verdict c.in_ok-refusal_shape.was)))
 
-pub returns-else-no-eq0 : goal.returns-else-no-eq0
-returns-else-no-eq0 c =
-    let g = gated (goal.at.returns-else-no-eq0 c).After-refusal_shape-no in
-    rw g (answer-refused _ _ _ _ (rw g at c.if-no-eq0.false))
+pub returns-in_err-refusal_shape : goal.returns-in_err-refusal_shape
+returns-in_err-refusal_shape c =
+    let h = c.in_err-refusal_shape in
+    rw (stopped-says _ _ _ h.was c.from_residual.ensures.1) (let g = gated (goal.at.returns-in_err-refusal_shape c).After-refusal_shape in
+    rw g (answer-refused _ _ _ _ (rw g at (stopped-some _ _ h.was))))

@@ -6,13 +6,13 @@ use mathlib.Core.Bool.{and-eq-true_iff}
 use Prim.Native.Nat.{ℕ, ◌+◌, ◌-◌, ◌<◌}
 use native.Mathlib.Omega.{arith}
 use lib.Dec.{ltb}
-use lib.ListN.{length-set}
+use lib.ListN.{drop}
 use lib.Seq.{drop-set-lt}
 use borrow.Author.Tests.{ltb-true}
 use borrow.Author.Rules.{rules}
 use Rattle.cwrs_counts.specs.Count.{Vn}
 use Rattle.cwrs.specs.Word.{word}
-use Rattle.cwrs.proofs.Back.{tail_pulses-le, written, silent}
+use Rattle.cwrs.proofs.Back.{silenced, tail_pulses-le, written}
 use Rattle.cwrs.proofs.work.cwrsi.Goals as goal
 use Rattle.cwrs.proofs.work.cwrsi.Goals.{In-loop-j}
 
@@ -35,15 +35,16 @@ loop-j-preserved c =
     simp back (
       omega arith,
       omega (arith, tail_pulses-le (a.n - l.j) l.left l.at),
-      length-set l.y l.j r.value ∙ l.invariant.2,
       e.3 ∙ ap (λ (x : ℕ). Vn x r.left) f,
       written l.y (word a.n a.k a.i) l.j a.n l.left l.at r.value r.left r.index m (omega arith) e.0 e.1
-          e.2 l.invariant.4,
-      drop-set-lt a.n l.y l.j r.value m ∙ l.invariant.5,
+          e.2 l.invariant.3,
+      drop-set-lt a.n l.y l.j r.value m ∙ l.invariant.4,
     )
 
 pub returns : goal.returns
 returns c =
+    let a = c.args in
     let l = c.loop-j in
-    let q = silent l.j c.args.n l.left l.at c.loop-j-test.false in
-    c.silence.ensures ∙ rw (← q, l.invariant.4, l.invariant.5)
+    let v = l.invariant in
+    silenced l.y (drop a.n a.y.now) _ (word a.n a.k a.i) l.j a.n l.left l.at v.0 (omega arith) c.loop-j-test.false
+    (c.fill.ensures.after (λ y p. p)) v.3 v.4

@@ -2,14 +2,14 @@
 use mathlib.Core.Path.{◌≡◌}
 use mathlib.Core.List.{◌++◌}
 use Prim.Native.Nat.{◌-◌, ◌≤◌}
-use lib.ListN.{length, take, drop}
+use lib.ListN.{take, drop}
 use Rattle.cwrs_counts.specs.Count.{Vn}
 use Rattle.cwrs.specs.Word.{word}
 use Rattle.cwrs.proofs.work.cwrsi.Given as goal
 
 abbrev pub invariant-loop-j : goal.invariant-loop-j
 invariant-loop-j l =
-    (l.j ≤ l.n) × (l.left ≤ l.k) × (length l.y ≡ length l.initial.y) × (l.count ≡ Vn (l.n - l.j) l.left)
+    (l.j ≤ l.n) × (l.left ≤ l.k) × (l.count ≡ Vn (l.n - l.j) l.left)
     × (take l.j l.y ++ word (l.n - l.j) l.left l.at ≡ word l.n l.k l.i)
     × (drop l.n l.y ≡ drop l.n l.initial.y)
 

@@ -30,7 +30,7 @@ facts c =
     let n = c.args.n in
     let r = c.unsigned_abs-s.result in
     let f : SFits w32 (get_or y (l.j - 1) (pos 0)) = search rules in
-    let q : r ≡ nat_abs (get_or y (l.j - 1) (pos 0)) = c.unsigned_abs-s.ensures.0 ∙ ap nat_abs (to_z-of_z f) in
+    let q : r ≡ nat_abs (get_or y (l.j - 1) (pos 0)) = c.unsigned_abs-s.ensures.value ∙ ap nat_abs (to_z-of_z f) in
     let p = pulses-more y n l.j (omega arith) (omega arith) (omega arith) in
     let d = pulses-drop (l.j - 1) (take n y) in
     let s : r ≤ 128 = omega arith in
@@ -40,7 +40,7 @@ facts c =
     record { square = omega (arith, mul-le-mul_right r s); more = e; low = omega arith }
 
 pub loop-j-init : goal.loop-j-init
-loop-j-init c = (omega arith, energy-none c.args.y.now c.args.n)
+loop-j-init c = energy-none c.args.y.now c.args.n
 
 pub overflow_mul-e : goal.overflow_mul-e
 overflow_mul-e c = let f = facts (goal.at.overflow_mul-e c).After-unsigned_abs-s in omega arith
@@ -56,5 +56,5 @@ returns c =
     let l = c.loop-j in
     let v = take c.args.n c.args.y.now in
     let z : l.j ≡ 0 = omega arith in
-    let e : l.e ≡ energy v = l.invariant.1 ∙ ap (λ (m : ℕ). energy (slice m c.args.n c.args.y.now)) z in
+    let e : l.e ≡ energy v = l.invariant ∙ ap (λ (m : ℕ). energy (slice m c.args.n c.args.y.now)) z in
     (e, omega (arith, energy-le 128 v c.requires.2))

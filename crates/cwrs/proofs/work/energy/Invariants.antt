@@ -1,12 +1,8 @@
 -- `cwrs::work::energy`: from the last place backwards, e is the energy of the places from j on; 128 pulses keep every square small. Assumes nothing.
 use mathlib.Core.Path.{◌≡◌}
-use Prim.Native.Nat.{◌≤◌}
 use lib.Seq.{slice}
 use Rattle.cwrs.specs.Word.{energy}
 use Rattle.cwrs.proofs.work.energy.Given as goal
 
 abbrev pub invariant-loop-j : goal.invariant-loop-j
-invariant-loop-j l = (l.j ≤ l.n) × (l.e ≡ energy (slice l.j l.n l.y))
-
-abbrev pub decreases-loop-j : goal.decreases-loop-j
-decreases-loop-j l = l.j
+invariant-loop-j l = (l.e ≡ energy (slice l.j l.n l.y))

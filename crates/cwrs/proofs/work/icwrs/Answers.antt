@@ -19,8 +19,8 @@ first : (c : In-loop-j) → let a = c.args in let l = c.loop-j in
     NextPlace a.y.now a.n l.j l.k l.i (nat_abs (get_or a.y.now (l.j - 1) (pos 0)))
 first c =
     let l = c.loop-j in
-    next_place c.args.y.now c.args.n l.j l.k l.i _ (omega arith) (omega arith) c.requires.0 c.requires.2 c.requires.3 l.invariant.1
-    l.invariant.2 refl
+    next_place c.args.y.now c.args.n l.j l.k l.i _ (omega arith) (omega arith) c.requires.0 c.requires.2 c.requires.3 l.invariant.0
+    l.invariant.1 refl
 
 abbrev place : After-unsigned_abs → ℤ
 place c =
@@ -34,7 +34,7 @@ second : (c : After-unsigned_abs) → NextPlace c.args.y.now c.args.n c.loop-j.j
 second c =
     let l = c.loop-j in
     next_place c.args.y.now c.args.n l.j l.k l.i c.unsigned_abs.result (omega arith) (omega arith) c.requires.0 c.requires.2
-    c.requires.3 l.invariant.1 l.invariant.2 (c.unsigned_abs.ensures.0 ∙ ap nat_abs (to_z-of_z (held c)))
+    c.requires.3 l.invariant.0 l.invariant.1 (c.unsigned_abs.ensures.value ∙ ap nat_abs (to_z-of_z (held c)))
 
 -- the number with a negative place, and with any other
 below : (c : After-unsigned_abs) → is_neg (to_z w32 (of_z w32 (place c))) ≡ true → is_neg (place c) ≡ true
@@ -44,7 +44,7 @@ above : (c : After-unsigned_abs) → is_neg (to_z w32 (of_z w32 (place c))) ≡ 
 above c h = rw (to_z-of_z (held c)) at h
 
 pub loop-j-init : goal.loop-j-init
-loop-j-init c = (omega arith, pulses-none c.args.y.now c.args.n, index-none c.args.y.now c.args.n)
+loop-j-init c = (pulses-none c.args.y.now c.args.n, index-none c.args.y.now c.args.n)
 
 pub pvq_u-i-requires : goal.pvq_u-i-requires
 pvq_u-i-requires c = let t = first (goal.at.pvq_u-i-requires c).In-loop-j in omega arith

@@ -12,7 +12,7 @@ use native.Mathlib.Omega.{arith}
 use Rattle.cwrs.proofs.work.total.Goals as goal
 
 pub loop-j-init : goal.loop-j-init
-loop-j-init c = (omega arith, pulses-none c.args.y.now c.args.n, omega arith)
+loop-j-init c = (pulses-none c.args.y.now c.args.n, omega arith)
 
 pub loop-j-preserved : goal.loop-j-preserved
 loop-j-preserved c =
@@ -20,5 +20,5 @@ loop-j-preserved c =
     let j = c.loop-j.j in
     let e = pulses-more a.y.now a.n j (omega arith) (omega arith) (omega arith) in
     let f : SFits w32 (get_or a.y.now (j - 1) (pos 0)) = search rules in
-    let q : c.unsigned_abs.result ≡ nat_abs (get_or a.y.now (j - 1) (pos 0)) = c.unsigned_abs.ensures.0 ∙ ap nat_abs (to_z-of_z f) in
-    (omega arith, omega arith, omega arith)
+    let q : c.unsigned_abs.result ≡ nat_abs (get_or a.y.now (j - 1) (pos 0)) = c.unsigned_abs.ensures.value ∙ ap nat_abs (to_z-of_z f) in
+    (omega arith, omega arith)

@@ -6,7 +6,4 @@ use Rattle.cwrs.specs.Word.{pulses}
 use Rattle.cwrs.proofs.work.total.Given as goal
 
 abbrev pub invariant-loop-j : goal.invariant-loop-j
-invariant-loop-j l = (l.j ≤ l.n) × (l.k ≡ pulses (slice l.j l.n l.y)) × (l.k ≤ 0x8000_0000 * (l.n - l.j))
-
-abbrev pub decreases-loop-j : goal.decreases-loop-j
-decreases-loop-j l = l.j
+invariant-loop-j l = (l.k ≡ pulses (slice l.j l.n l.y)) × (l.k ≤ 0x8000_0000 * (l.n - l.j))

@@ -6,18 +6,15 @@ use Rattle.entcode.proofs.table.falls_from.Goals as goal
 
 pub returns-then-p-x : goal.returns-then-p-x
 returns-then-p-x c =
-    let l = c.loop-i in
-    let a = c.args in
-    sym (l.invariant.1 ∙ falls-stop l.p a.t.now l.i (omega arith) (omega arith))
+    let l = c.loop-b in
+    sym (l.invariant ∙ falls-stop l.p c.args.t.now l.b-index (omega arith) (omega arith))
 
-pub loop-i-preserved : goal.loop-i-preserved
-loop-i-preserved c =
-    let l = c.loop-i in
-    let a = c.args in
-    (omega arith, l.invariant.1 ∙ rw c.wide-x.ensures.0 (falls-step l.p a.t.now l.i (omega arith) (omega arith)))
+pub loop-b-preserved : goal.loop-b-preserved
+loop-b-preserved c =
+    let l = c.loop-b in
+    l.invariant ∙ rw c.from-x.ensures (falls-step l.p c.args.t.now l.b-index (omega arith) (omega arith))
 
 pub returns : goal.returns
 returns c =
-    let l = c.loop-i in
-    let a = c.args in
-    sym (l.invariant.1 ∙ falls-end l.p a.t.now l.i (omega arith))
+    let l = c.loop-b in
+    sym (l.invariant ∙ falls-end l.p c.args.t.now l.b-index (omega arith))

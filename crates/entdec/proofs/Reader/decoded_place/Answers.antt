@@ -3,10 +3,6 @@ use Rattle.entdec.specs.Read.{decoded_place}
 use borrow.Author.Rules.{rules}
 use Rattle.entdec.proofs.Reader.decoded_place.Goals as goal
 
-pub returns-then-k-ft : goal.returns-then-k-ft
+pub returns : goal.returns
 unfolding decoded_place
-returns-then-k-ft c = search rules
-
-pub returns-else-k-ft : goal.returns-else-k-ft
-unfolding decoded_place
-returns-else-k-ft c = search rules
+returns c = search rules

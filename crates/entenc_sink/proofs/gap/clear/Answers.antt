@@ -1,19 +1,15 @@
--- `entenc_sink::gap::clear`: the remaining zeros give from here what all gave at the start. Assumes nothing.
-use mathlib.Core.Path.{sym, ◌∙◌}
+-- `entenc_sink::gap::clear`: zeros stand in the place of the bytes. Assumes nothing.
+use Prim.Native.Nat.{ℕ, ◌+◌, ◌-◌}
+use mathlib.Core.Path.{◌≡◌, ap, ◌∙◌}
 use native.Mathlib.Omega.{arith}
-use lib.ListN.{length-set}
-use Rattle.entenc_sink.proofs.Gaps.{zeroed_step, zeroed-done}
+use lib.ListN.{replicate, length-take, length-drop}
+use Rattle.entenc_sink.proofs.Gaps.{zeros_at}
 use Rattle.entenc_sink.proofs.gap.clear.Goals as goal
-
-pub loop-k-preserved : goal.loop-k-preserved
-loop-k-preserved c =
-    let l = c.loop-k in (
-      simp length-set (omega arith),
-      length-set l.buf l.i 0 ∙ l.invariant.1,
-      l.invariant.2 ∙ zeroed_step l.k l.i l.buf c.loop-k-test.true,
-    )
 
 pub returns : goal.returns
 returns c =
-    let l = c.loop-k in
-    zeroed-done l.k l.i l.buf c.loop-k-test.false ∙ sym l.invariant.2
+    let a = c.args in
+    let k : a.a + a.n - a.a ≡ a.n = omega arith in
+    let e : c.fill.new.self ≡ replicate a.n 0 =
+    c.fill.ensures.after (λ y p. p) ∙ ap (λ (m : ℕ). replicate m 0) (simp (length-take, length-drop) (omega arith)) in
+    rw (e, k) (zeros_at a.n a.a a.buf.now c.requires)

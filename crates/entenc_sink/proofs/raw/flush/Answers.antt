@@ -1,23 +1,27 @@
 -- `entenc_sink::raw::flush`: the remaining bytes give from here what all gave at the start. Assumes nothing.
-use mathlib.Core.Path.{sym, ◌∙◌}
-use Rattle.entenc_sink.specs.Out.{out}
-use Rattle.entenc_sink.proofs.Flushes.{flush-step, flush_then, flush-none}
+use Prim.Native.Nat.{◌/◌}
+use mathlib.Core.Path.{sym, ap, ◌∙◌}
+use native.Mathlib.Omega.{arith}
+use Rattle.entenc_sink.specs.Out.{flushed, out}
+use Rattle.entenc_sink.proofs.Flushes.{flush-none, flush-step, left-none, left-step}
 use Rattle.entenc_sink.proofs.Outs.{end-fit}
 use Rattle.entenc_sink.proofs.raw.flush.Goals as goal
 
-pub loop-n-preserved : goal.loop-n-preserved
-loop-n-preserved c =
+pub loop-preserved : goal.loop-preserved
+loop-preserved c =
     let p = c.put_end-t in
-    let l = c.loop-n in (
-      rw p.ensures (end-fit _ _ l.invariant.0),
-      p.auto.buf ∙ l.invariant.1,
-      flush_then l.invariant.2 (flush-step l.w l.n (out l.t l.buf) (out p.result p.new.buf)
-          c.loop-n-test.true p.ensures),
+    let l = c.loop in
+    let v = l.invariant in (
+      rw p.ensures (end-fit _ _ v.0),
+      v.1 ∙ flush-step l.w l.counter (c.args.waiting / 8) (out l.t l.buf) (omega arith) ∙ ap (flushed _ _) (sym p.ensures),
+      v.2 ∙ left-step l.w l.counter (c.args.waiting / 8) (omega arith),
     )
 
 pub returns : goal.returns
 returns c =
-    let l = c.loop-n in
-    let f = l.invariant.2 in
-    let z = flush-none l.w l.n (out l.t l.buf) c.loop-n-test.false in
-    (sym (f.out-is ∙ z.0), sym (f.window-is ∙ z.1), sym (f.waiting-is ∙ z.2))
+    let l = c.loop in
+    let v = l.invariant in (
+      sym (v.1 ∙ flush-none l.w l.counter (c.args.waiting / 8) (out l.t l.buf) (omega arith)),
+      sym (v.2 ∙ left-none l.w l.counter (c.args.waiting / 8) (omega arith)),
+      omega arith,
+    )

@@ -1,14 +1,11 @@
 -- `entenc_sink::raw::flush`: the remaining bytes give from here what all gave at the start. Assumes nothing.
+use Prim.Native.Nat.{◌-◌}
 use mathlib.Core.Path.{◌≡◌}
-use lib.ListN.{length}
-use Rattle.entenc_sink.specs.Out.{out}
+use Rattle.entenc_sink.specs.Out.{out, flushed, left_of}
 use Rattle.entenc_sink.specs.Fit.{Fit}
-use Rattle.entenc_sink.proofs.Flushes.{Flush}
 use Rattle.entenc_sink.proofs.raw.flush.Given as goal
 
-abbrev pub invariant-loop-n : goal.invariant-loop-n
-invariant-loop-n l = Fit (out l.t l.buf) × (length l.buf ≡ length l.initial.buf)
-    × Flush l.initial.w l.initial.n (out l.initial.t l.initial.buf) l.w l.n (out l.t l.buf)
-
-abbrev pub decreases-loop-n : goal.decreases-loop-n
-decreases-loop-n l = l.n
+abbrev pub invariant-loop : goal.invariant-loop
+invariant-loop l =
+    Fit (out l.t l.buf) × (flushed l.end l.initial.w (out l.initial.t l.initial.buf) ≡ flushed (l.end - l.counter) l.w (out l.t l.buf))
+    × (left_of l.end l.initial.w ≡ left_of (l.end - l.counter) l.w)

@@ -17,9 +17,9 @@ tested c = rw c.is_stored.ensures at c.if-is_stored-shown.true
 lengths : (c : Then-is_stored-shown) → let a = c.args in Both (length a.state.now) 12 (length a.shown.now) 4
 lengths c = let a = c.args in stored-both a.state.now a.shown.now 4 (tested c)
 
-pub leave_alloc_read-requires : goal.leave_alloc_read-requires
-leave_alloc_read-requires c =
-    let l = lengths (goal.at.leave_alloc_read-requires c).Then-is_stored-shown in
+pub leave_allocation-requires : goal.leave_allocation-requires
+leave_allocation-requires c =
+    let l = lengths (goal.at.leave_allocation-requires c).Then-is_stored-shown in
     (l.one, l.two)
 
 pub returns-then-is_stored-shown : goal.returns-then-is_stored-shown
@@ -30,8 +30,8 @@ returns-then-is_stored-shown c =
     right_lengths _ _ (tested (goal.at.returns-then-is_stored-shown c).Then-is_stored-shown)
     (bands-read {p = lists e.pulses e.fine e.priorities}
     (a.state.now, a.shown.now) a.offsets.now a.caps.now a.s.now (lists a.pulses.now a.fine.now a.priorities.now)
-    (numbers_back f.c f.lm f.start f.end f.trim f.total) c.load_reader-d.ensures c.clt_compute_allocation_read-a.ensures
-    c.leave_alloc_read.ensures)
+    (numbers_back f.c f.lm f.start f.end f.trim f.total) c.load-d.ensures c.clt_compute_allocation_read-a.ensures
+    c.leave_allocation.ensures)
 
 pub returns : goal.returns
 returns c = wrong_lengths _ _ (rw c.is_stored.ensures at c.if-is_stored-shown.false)

@@ -14,7 +14,7 @@ tested c = rw c.is_stored.ensures at c.if-is_stored-value.true
 pub returns-then-is_stored-value : goal.returns-then-is_stored-value
 returns-then-is_stored-value c =
     right_lengths _ _ (tested (goal.at.returns-then-is_stored-value c).Then-is_stored-value)
-    (rw (c.bits-a.ensures, c.load_reader-d.ensures) at c.leave_read.ensures)
+    (rw (c.bits-a.ensures, c.load-d.ensures) at c.leave_coded.ensures)
 
 pub returns : goal.returns
 returns c = wrong_lengths _ _ (rw c.is_stored.ensures at c.if-is_stored-value.false)

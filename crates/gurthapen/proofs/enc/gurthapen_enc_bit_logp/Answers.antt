@@ -15,8 +15,8 @@ tested c = sym c.is_stored.ensures ∙ c.if-is_stored.true
 pub returns-then-is_stored : goal.returns-then-is_stored
 returns-then-is_stored c =
     right_lengths _ _ (tested (goal.at.returns-then-is_stored c).Then-is_stored)
-    (wrote c.args.state.now _ _ _ _ (rw c.load_writer-w.ensures at c.bit_logp-a.ensures)
-    c.leave_write.ensures)
+    (wrote c.args.state.now _ _ _ _ (rw c.load-w.ensures at c.bit_logp-a.ensures)
+    c.leave_coder.ensures)
 
 pub returns : goal.returns
 returns c = wrong_lengths _ _ (sym c.is_stored.ensures ∙ c.if-is_stored.false)

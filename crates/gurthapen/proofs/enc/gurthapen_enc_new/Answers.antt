@@ -6,7 +6,7 @@ use Rattle.gurthapen.proofs.enc.gurthapen_enc_new.Goals as goal
 pub returns-then-state-eq12 : goal.returns-then-state-eq12
 returns-then-state-eq12 c =
     right_lengths _ _ (eq-eqb _ _ c.if-state-eq12.true)
-    (rw c.new-a.ensures at c.leave_write.ensures)
+    (rw c.new-a.ensures at c.leave_coder.ensures)
 
 pub returns : goal.returns
 returns c = wrong_lengths _ _ (ne_eqb _ _ c.if-state-eq12.false)

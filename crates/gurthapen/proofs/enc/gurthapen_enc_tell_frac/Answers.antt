@@ -7,8 +7,8 @@ returns-then-state-value c =
     right_lengths _ _ c.if-state-value.true
     (rw (
       c.tell_frac-t.ensures,
-      c.load_writer-w.ensures,
-    ) at c.leave_tell.ensures)
+      c.load-w.ensures,
+    ) at c.leave_number.ensures)
 
 pub returns : goal.returns
 returns c = wrong_lengths _ _ c.if-state-value.false

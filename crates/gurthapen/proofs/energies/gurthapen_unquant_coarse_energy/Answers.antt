@@ -17,8 +17,8 @@ returns-then-is_stored c =
     let a = c.args in
     let f = c.ranges in
     right_lengths _ _ (tested (goal.at.returns-then-is_stored c).Then-is_stored)
-    (coarse-left a.state.now a.s.now a.energies.now f.c f.lm f.start f.end f.intra c.load_reader-d.ensures
-    c.unquant_coarse_energy-a.ensures c.leave_energies.ensures)
+    (coarse-left a.state.now a.s.now a.energies.now f.c f.lm f.start f.end f.intra c.load-d.ensures
+    c.unquant_coarse_energy-a.ensures c.leave_coder.ensures)
 
 pub returns : goal.returns
 returns c = wrong_lengths _ _ (sym c.is_stored.ensures ∙ c.if-is_stored.false)

@@ -18,7 +18,7 @@ returns-then-is_stored c =
     let f = c.ranges in
     right_lengths _ _ (tested (goal.at.returns-then-is_stored c).Then-is_stored)
     (finalise-left a.state.now a.fine.now a.priorities.now a.s.now a.energies.now f.c f.start f.end f.left
-    c.load_reader-d.ensures c.unquant_energy_finalise-a.ensures c.leave_energies.ensures)
+    c.load-d.ensures c.unquant_energy_finalise-a.ensures c.leave_coder.ensures)
 
 pub returns : goal.returns
 returns c = wrong_lengths _ _ (sym c.is_stored.ensures ∙ c.if-is_stored.false)

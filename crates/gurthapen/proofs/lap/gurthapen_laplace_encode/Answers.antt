@@ -17,8 +17,8 @@ pub returns-then-is_stored-value : goal.returns-then-is_stored-value
 returns-then-is_stored-value c =
     right_lengths _ _ (tested (goal.at.returns-then-is_stored-value c).Then-is_stored-value)
     (wrote_value (c.args.state.now, c.args.value.now) _ _ _ _
-    (rw (to_z-of_z c.ranges.z, c.load_writer-w.ensures) at c.ec_laplace_encode-a.ensures)
-    c.leave_done.ensures)
+    (rw (to_z-of_z c.ranges.z, c.load-w.ensures) at c.ec_laplace_encode-a.ensures)
+    c.leave_coded.ensures)
 
 pub returns : goal.returns
 returns c = wrong_lengths _ _ (rw c.is_stored.ensures at c.if-is_stored-value.false)

@@ -8,7 +8,7 @@ pub returns-then-value-eq1 : goal.returns-then-value-eq1
 returns-then-value-eq1 c =
     right_lengths _ _ (eq-eqb _ _ c.if-value-eq1.true)
     (rw (rw (to_z-of_z c.ranges.i) at c.get_pulses-a.ensures)
-    at c.leave_lookup.ensures)
+    at c.leave_number.ensures)
 
 pub returns : goal.returns
 returns c = wrong_lengths _ _ (ne_eqb _ _ c.if-value-eq1.false)

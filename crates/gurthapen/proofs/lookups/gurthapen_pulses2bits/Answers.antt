@@ -13,7 +13,7 @@ returns-then-value-eq1 c =
           c.ranges.lm,
       to_z-of_z
           c.ranges.pulses,
-    ) at c.pulses2bits-a.ensures) at c.leave_lookup.ensures)
+    ) at c.pulses2bits-a.ensures) at c.leave_number.ensures)
 
 pub returns : goal.returns
 returns c = wrong_lengths _ _ (ne_eqb _ _ c.if-value-eq1.false)

@@ -16,7 +16,7 @@ pub returns-then-is_stored-energy : goal.returns-then-is_stored-energy
 returns-then-is_stored-energy c =
     right_lengths _ _ (tested (goal.at.returns-then-is_stored-energy c).Then-is_stored-energy)
     (placed (c.args.state.now, c.args.energy.now) _ _ _ _
-    (rw c.load_reader-d.ensures at c.decode_pulses-a.ensures) c.leave_found.ensures)
+    (rw c.load-d.ensures at c.decode_pulses-a.ensures) c.leave_found.ensures)
 
 pub returns : goal.returns
 returns c = wrong_lengths _ _ (rw c.is_stored.ensures at c.if-is_stored-energy.false)

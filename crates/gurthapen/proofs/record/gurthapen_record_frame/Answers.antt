@@ -33,14 +33,14 @@ returns-then-sized c =
     let e = c.leave_frame.new in
     right_lengths _ _ (tested t)
     (frame_of {x' = ((e.energies, e.next), e.state)} ((a.energies.now, a.next.now), a.state.now) a.s.now a.number f.c f.lm f.start
-    f.end f.intra c.load_record-rec.ensures c.load_reader-d.ensures c.frame-y.ensures c.leave_frame.ensures)
+    f.end f.intra c.load_record-rec.ensures c.load-d.ensures c.frame-y.ensures c.leave_frame.ensures)
 
 pub returns-then-energies-next : goal.returns-then-energies-next
 returns-then-energies-next c =
     let a = c.args in
     right_lengths _ _ (tested (goal.at.returns-then-energies-next c).Then-energies-next)
     (frame_unsized (record_in a.energies.now a.next.now) ((a.energies.now, a.next.now), a.state.now) a.s.now a.number a.c a.lm
-    a.start a.end a.intra c.load_reader-d.ensures (sym c.sized.ensures ∙ c.if-sized.false))
+    a.start a.end a.intra c.load-d.ensures (sym c.sized.ensures ∙ c.if-sized.false))
 
 pub returns : goal.returns
 returns c = wrong_lengths _ _ (rw c.is_stored.ensures at c.if-energies-next.false)

@@ -17,7 +17,7 @@ returns-then-is_stored-mask c =
     let a = c.args in
     let f = c.ranges in
     right_lengths _ _ (tested (goal.at.returns-then-is_stored-mask c).Then-is_stored-mask)
-    (shape-left (a.state.now, a.mask.now) a.s.now a.shape.now a.gain f.n f.k f.spread f.b c.load_reader-d.ensures
+    (shape-left (a.state.now, a.mask.now) a.s.now a.shape.now a.gain f.n f.k f.spread f.b c.load-d.ensures
     c.alg_unquant-a.ensures c.leave_shape.ensures)
 
 pub returns : goal.returns

@@ -1,10 +1,11 @@
--- `gurthapen_answer::record::leave_frame`: by the code. Assumes nothing.
-use Rattle.gurthapen_answer.proofs.Coded.{coded, uncoded, paired}
+-- `gurthapen_answer::record::leave_frame`: by the answer. Assumes nothing.
+use Rattle.gurthapen_answer.specs.Result.{result_of}
 use Rattle.gurthapen_answer.proofs.record.leave_frame.Goals as goal
 
-pub returns-then-y-eq0 : goal.returns-then-y-eq0
-returns-then-y-eq0 c =
-    coded _ _ c.if-y-eq0.true (paired c.store_record.ensures c.store_reader.ensures)
+pub returns-in-Ok : goal.returns-in-Ok
+unfolding result_of
+returns-in-Ok c = rw (c.in-Ok.is, c.store_record.ensures, c.store.ensures)
 
-pub returns : goal.returns
-returns c = uncoded _ _ _ c.if-y-eq0.false
+pub returns-in-Err : goal.returns-in-Err
+unfolding result_of
+returns-in-Err c = rw (c.in-Err.is, c.from.ensures)

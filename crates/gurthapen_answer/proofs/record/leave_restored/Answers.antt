@@ -1,10 +1,13 @@
--- `gurthapen_answer::record::leave_restored`: by the code. Assumes nothing.
+-- `gurthapen_answer::record::leave_restored`: by the answer. Assumes nothing.
+use mathlib.Core.Path.{sym, ap, ◌∙◌}
+use Rattle.entcode.specs.Said.{verdict}
+use Rattle.entcode.proofs.Said.{stopped-some}
 use Rattle.gurthapen_answer.proofs.Coded.{coded, uncoded}
 use Rattle.gurthapen_answer.proofs.record.leave_restored.Goals as goal
 
-pub returns-then-a-eq0 : goal.returns-then-a-eq0
-returns-then-a-eq0 c =
-    coded _ _ c.if-a-eq0.true c.store_record.ensures
+pub returns-in-Ok : goal.returns-in-Ok
+returns-in-Ok c = coded _ _ (ap verdict c.in-Ok.is) c.store_record.ensures
 
-pub returns : goal.returns
-returns c = uncoded _ _ _ c.if-a-eq0.false
+pub returns-in-Err : goal.returns-in-Err
+returns-in-Err c =
+    rw (c.from.ensures ∙ sym (ap verdict c.in-Err.is)) (uncoded _ _ _ (stopped-some _ _ c.in-Err.is))

@@ -3,16 +3,16 @@ use Rattle.gurthapen_answer.specs.Result.{result_of}
 use Rattle.gurthapen_answer.proofs.Exports.{one_set}
 use Rattle.gurthapen_answer.proofs.shapes.leave_shape.Goals as goal
 
-pub returns-in-Done : goal.returns-in-Done
+pub returns-in-Ok : goal.returns-in-Ok
 unfolding result_of
-returns-in-Done c =
+returns-in-Ok c =
     rw (
-      c.in-Done.is,
-      c.store_reader.ensures,
+      c.in-Ok.is,
+      c.store.ensures,
       one_set _ c.args.mask.now
           c.requires.1,
     )
 
-pub returns-in-Refused : goal.returns-in-Refused
+pub returns-in-Err : goal.returns-in-Err
 unfolding result_of
-returns-in-Refused c = rw c.in-Refused.is
+returns-in-Err c = rw (c.in-Err.is, c.from.ensures)

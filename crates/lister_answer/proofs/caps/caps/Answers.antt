@@ -15,19 +15,14 @@ use Rattle.lister_answer.proofs.caps.caps.Goals as goal
 
 pub loop-j-init : goal.loop-j-init
 unfolding no_entries
-loop-j-init c = (omega arith, caps-none c.args.c c.args.lm)
+loop-j-init c = caps-none c.args.c c.args.lm
 
 pub loop-j-preserved : goal.loop-j-preserved
-loop-j-preserved c =
-    let l = c.loop-j in (
-      omega arith,
-      caps-up c.args.c c.args.lm l.j l.invariant.1
-          (to_z-of_z {w = w32} (search rules) ∙ c.cap.ensures),
-    )
+loop-j-preserved c = caps-up c.args.c c.args.lm c.loop-j.j c.loop-j.invariant (to_z-of_z {w = w32} (search rules) ∙ c.cap.ensures)
 
 pub returns : goal.returns
 unfolding caps_of
 returns c =
     let l = c.loop-j in
     let e : l.j ≡ 21 = omega arith in
-    l.invariant.1 ∙ ap (λ (k : ℕ). fill (λ i. pos (cap_of c.args.c c.args.lm i)) 0 k no_entries) e
+    l.invariant ∙ ap (λ (k : ℕ). fill (λ i. pos (cap_of c.args.c c.args.lm i)) 0 k no_entries) e

@@ -21,7 +21,7 @@ caps-limits-requires c =
     let flm : SFits w32 q.lm = search rules in
     let e : c.clipped.result ≡ clip q.c = rw (to_z-of_z fc) at c.clipped.ensures.0 in
     let h : c.clipped-2.result ≡ clip q.lm = rw (to_z-of_z flm) at c.clipped-2.ensures.0 in
-    let f = counts-ok q c.requires.0 in
+    let f = counts-ok q c.requires in
     (omega (arith, f.c_low), omega (arith, f.c_le), omega (arith, f.lm-le))
 
 pub returns : goal.returns
@@ -38,5 +38,5 @@ returns c =
     let j : c.clipped.result ≡ clip q.c = rw (to_z-of_z fc) at c.clipped.ensures.0 in
     let k : c.clipped-2.result ≡ clip q.lm = rw (to_z-of_z flm) at c.clipped-2.ensures.0 in
     let m : c.caps-limits.result ≡ caps_of (clip q.c) (clip q.lm) = c.caps-limits.ensures ∙ rw (j, k) in
-    decision_in_domain q a.s.now a.d c.requires.0 e h (allocated-is q a.s.now a.d m
-    (rw (c.requires.1, c.requires.2, c.requires.3) at c.clt_compute_allocation_read-said.ensures))
+    decision_in_domain q a.s.now a.d c.requires e h (allocated-is q a.s.now a.d m
+    c.clt_compute_allocation_read-said.ensures)

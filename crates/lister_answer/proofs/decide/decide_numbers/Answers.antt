@@ -5,5 +5,4 @@ use Rattle.lister_answer.proofs.decide.decide_numbers.Goals as goal
 
 pub returns : goal.returns
 returns c =
-    rw (c.requires.1, c.requires.2, c.requires.3) (c.none.ensures ∙ decision_outside c.args.q c.args.s.now
-    (sym c.numbers_ok.ensures ∙ c.if-numbers_ok.false))
+    c.none.ensures ∙ decision_outside c.args.q c.args.s.now (sym c.numbers_ok.ensures ∙ c.if-numbers_ok.false)

@@ -4,8 +4,8 @@ use Rattle.lister_answer.proofs.decide.decide_packet.Goals as goal
 
 pub decide_numbers-requires : goal.decide_numbers-requires
 decide_numbers-requires c =
-    (new-reader c.args.s.now c.requires.0 c.new.ensures c.in-Done.is, c.requires.1, c.requires.2, c.requires.3)
+    new-reader c.args.s.now c.requires c.new.ensures c.in-Ok.is
 
-pub returns-in-Refused : goal.returns-in-Refused
-returns-in-Refused c = absurd
-    (new-reader_never_refused c.args.s.now c.requires.0 c.new.ensures c.in-Refused.is)
+pub returns-in-Err : goal.returns-in-Err
+returns-in-Err c = absurd
+    (new-reader_never_refused c.args.s.now c.requires c.new.ensures c.in-Err.is)

@@ -11,14 +11,13 @@ numbers-requires c =
 
 pub decide_packet-requires : goal.decide_packet-requires
 decide_packet-requires c =
-    let w = packet-length c.args.line.now c.args.packet.now c.requires.0 c.requires.1 in (w.most, c.requires.2, c.requires.3, c.requires.4)
+    let w = packet-length c.args.line.now c.args.packet.now c.requires.0 c.requires.1 in w.most
 
-pub returns-in-Asks : goal.returns-in-Asks
-returns-in-Asks c =
+pub returns-in-Some : goal.returns-in-Some
+returns-in-Some c =
     c.decide_packet.ensures ∙ decision-asks c.args.line.now c.requires.0 c.requires.1 c.numbers.ensures
-    c.in-Asks.is
+    c.in-Some.is
 
-pub returns-in-Malformed : goal.returns-in-Malformed
-returns-in-Malformed c =
-    rw (c.requires.2, c.requires.3, c.requires.4) (c.none.ensures ∙ decision-malformed c.args.line.now c.requires.0 c.numbers.ensures
-    c.in-Malformed.is)
+pub returns-in-None : goal.returns-in-None
+returns-in-None c =
+    c.none.ensures ∙ decision-malformed c.args.line.now c.requires.0 c.numbers.ensures c.in-None.is

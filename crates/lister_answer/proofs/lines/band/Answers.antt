@@ -10,4 +10,4 @@ returns c =
     let a = c.args in
     let f = c.ranges in
     put-line 12 37 66 (decimal_of a.j) (signed_of a.pulses ∷ signed_of a.fine ∷ signed_of a.priority ∷ []) c.begin-a.ensures
-    (rw (to_z-of_z f.pulses, to_z-of_z f.fine, to_z-of_z f.priority) at c.last_three.ensures)
+    (rw (to_z-of_z f.pulses, to_z-of_z f.fine, to_z-of_z f.priority) at c.end.ensures)

@@ -18,17 +18,12 @@ loop-j-preserved c =
     let l = c.loop-j in
     let p : SFits w32 (get_or a.pulses.now l.j (pos 0)) = search rules in
     let f : SFits w32 (get_or a.fine.now l.j (pos 0)) = search rules in
-    let k : SFits w32 (get_or a.priorities.now l.j (pos 0)) = search rules in (
-      omega arith,
-      omega arith,
-      bands-next (lists a.pulses.now a.fine.now a.priorities.now) a.end a.start a.at a.buf.now l.j l.to l.buf c.loop-j-test.true
-          l.invariant.2 c.band-to.auto.buf
-          (rw (to_z-of_z p, to_z-of_z f, to_z-of_z k) at c.band-to.ensures),
-    )
+    let k : SFits w32 (get_or a.priorities.now l.j (pos 0)) = search rules in
+    bands-next (lists a.pulses.now a.fine.now a.priorities.now) a.end a.start a.at a.buf.now l.j l.to l.buf (omega arith) l.invariant c.band-to.auto.buf
+    (rw (to_z-of_z p, to_z-of_z f, to_z-of_z k) at c.band-to.ensures)
 
 pub returns : goal.returns
 returns c =
     let a = c.args in
     let l = c.loop-j in
-    bands-done (lists a.pulses.now a.fine.now a.priorities.now) a.end a.start a.at a.buf.now l.j l.to l.buf
-    c.loop-j-test.false l.invariant.2
+    bands-done (lists a.pulses.now a.fine.now a.priorities.now) a.end a.start a.at a.buf.now l.j l.to l.buf (omega arith) l.invariant

@@ -20,4 +20,4 @@ returns c =
     let fd : SFits w32 y.dual = search rules in
     put-line 12 49 82 (decimal_of a.number) (signed_of y.coded ∷ signed_of y.balance ∷ signed_of y.intensity ∷ signed_of y.dual ∷ [])
     c.begin-a.ensures
-    (rw (to_z-of_z fc, to_z-of_z fb, to_z-of_z fi, to_z-of_z fd) at c.last_four.ensures)
+    (rw (to_z-of_z fc, to_z-of_z fb, to_z-of_z fi, to_z-of_z fd) at c.end.ensures)

@@ -6,5 +6,5 @@ use Rattle.quant_bands.proofs.coarse_band.kind_of.Goals as goal
 pub returns : goal.returns
 returns c =
     let a = c.args in
-    kind-is a.lm a.intra a.i (search rules) c.pair_of-k.ensures.0 c.zero_in.ensures.0
+    kind-is a.f.lm a.f.intra a.i (search rules) c.pair_of-k.ensures.0 c.zero_in.ensures.0
     c.decay_in.ensures.0 c.coef_of.ensures c.beta_of.ensures

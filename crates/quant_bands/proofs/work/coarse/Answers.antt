@@ -5,4 +5,4 @@ use Rattle.quant_bands.proofs.work.coarse.Goals as goal
 pub returns : goal.returns
 returns c =
     let a = c.args in
-    coarse-is a.c a.lm a.intra a.start a.end a.s.now a.d a.energies.now c.coarse_bands-g.ensures
+    coarse-is a.f.bands.c a.f.lm a.f.intra a.f.bands.start a.f.bands.end a.s.now a.d a.energies.now c.coarse_bands-g.ensures

@@ -1,7 +1,6 @@
 -- `quant_bands::work::finalise`: the passes done so far. Assumes nothing.
-use Prim.Native.Nat.{◌-◌, ◌≤◌}
+use Prim.Native.Nat.{◌-◌}
 use mathlib.Core.Path.{◌≡◌}
-use lib.ListN.{length}
 use Rattle.laws.specs.Places.{over_places}
 use Rattle.quant_bands.specs.Finalise.{spending}
 use Rattle.quant_bands.specs.Question.{count_at}
@@ -10,10 +9,6 @@ use Rattle.quant_bands.proofs.work.finalise.Given as goal
 
 abbrev pub invariant-loop-pass : goal.invariant-loop-pass
 invariant-loop-pass l =
-    (l.pass ≤ 2) × (length l.energies ≡ length l.initial.energies)
-    × (spending l.energies l.y.left l.y.next
-    ≡ over_places (pass_of l.c (count_at l.fine) (count_at l.priorities) l.start l.end l.s) 0 (l.pass - 0)
-    (spending l.initial.energies l.initial.y.left l.initial.y.next))
-
-abbrev pub decreases-loop-pass : goal.decreases-loop-pass
-decreases-loop-pass l = 2 - l.pass
+    spending l.energies l.y.left l.y.next
+    ≡ over_places (pass_of l.b.c (count_at l.fine) (count_at l.priorities) l.b.start l.b.end l.s) 0 (l.pass - 0)
+    (spending l.initial.energies l.initial.y.left l.initial.y.next)

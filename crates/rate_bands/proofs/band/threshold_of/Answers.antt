@@ -22,4 +22,4 @@ overflow_mul-w-3 c = omega (arith, product (goal.at.overflow_mul-w-3 c).After-po
 
 pub returns : goal.returns
 unfolding threshold
-returns c = rw (c.max32.ensures, c.floor_of-floor.ensures.0, c.pow2-p.ensures, c.requires.1)
+returns c = rw (c.max.ensures, c.floor_of-floor.ensures.0, c.pow2-p.ensures, c.requires.1)

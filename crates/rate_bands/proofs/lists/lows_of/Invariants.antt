@@ -1,5 +1,5 @@
 -- `rate_bands::lists::lows_of`: the list is filled up to band j. Assumes nothing.
-use Prim.Native.Nat.{◌-◌, ◌≤◌}
+use Prim.Native.Nat.{◌-◌}
 use mathlib.Core.Path.{◌≡◌}
 use Rattle.laws.specs.Lists.{fill}
 use Rattle.rate_spec.specs.Vectors.{lower_bits}
@@ -8,7 +8,4 @@ use Rattle.rate_bands.proofs.lists.lows_of.Given as goal
 
 abbrev pub invariant-loop-j : goal.invariant-loop-j
 invariant-loop-j l =
-    (l.f.start ≤ l.j) × (l.j ≤ l.f.end) × (l.lows ≡ fill (lower_bits (alloc_in l.f l.offsets l.caps) l.v) l.f.start (l.j - l.f.start) l.initial.lows)
-
-abbrev pub decreases-loop-j : goal.decreases-loop-j
-decreases-loop-j l = l.f.end - l.j
+    l.lows ≡ fill (lower_bits (alloc_in l.t.f l.offsets l.caps) l.v) l.t.f.start (l.j - l.t.f.start) l.initial.lows

@@ -12,29 +12,27 @@ use Rattle.rate_bands.proofs.lists.neighbours.Goals as goal
 pub loop-j-init : goal.loop-j-init
 loop-j-init c =
     let a = c.args in
-    let b = alloc_in a.f a.offsets.now a.caps.now in
-    (omega arith, omega arith, fill_none (lower_bits b a.v) a.f.start a.lows.now, fill_none (gap b a.v) a.f.start a.gaps.now)
+    let b = alloc_in a.t.now.f a.offsets.now a.caps.now in
+    (fill_none (lower_bits b a.v) a.t.now.f.start a.lows.now, fill_none (gap b a.v) a.t.now.f.start a.gaps.now)
 
 pub loop-j-preserved : goal.loop-j-preserved
 loop-j-preserved c =
     let a = c.args in
-    let b = alloc_in a.f a.offsets.now a.caps.now in
+    let b = alloc_in a.t.now.f a.offsets.now a.caps.now in
     let v = c.loop-j.invariant in
     let low = c.low_of-low.ensures in (
-      omega arith,
-      omega arith,
-      fill-up (lower_bits b a.v) a.f.start c.loop-j.j a.lows.now v.0 v.2 low,
-      fill-up (gap b a.v) a.f.start c.loop-j.j a.gaps.now v.0 v.3
-          (gap_is a.f a.offsets.now a.caps.now a.v c.loop-j.j low c.high_of-high.ensures c.saturating_sub.ensures),
+      fill-up (lower_bits b a.v) a.t.now.f.start c.loop-j.j a.lows.now c.loop-j.auto.j v.0 low,
+      fill-up (gap b a.v) a.t.now.f.start c.loop-j.j a.gaps.now c.loop-j.auto.j v.1
+          (gap_is a.t.now.f a.offsets.now a.caps.now a.v c.loop-j.j low c.high_of-high.ensures c.saturating_sub.ensures),
     )
 
 pub returns : goal.returns
 returns c =
     let l = c.loop-j in
     let a = c.args in
-    let i = alloc_in a.f a.offsets.now a.caps.now in
-    let e : l.j ≡ a.f.end = omega arith in
+    let i = alloc_in a.t.now.f a.offsets.now a.caps.now in
+    let e : l.j ≡ a.t.now.f.end = omega arith in
     record {
-      lows_are = filled i (lower_bits i a.v) a.lows.now c.requires.0.end-le c.requires.5 (rw e at l.invariant.2);
-      gaps_are = filled i (gap i a.v) a.gaps.now c.requires.0.end-le c.requires.6 (rw e at l.invariant.3);
+      lows_are = filled i (lower_bits i a.v) a.lows.now a.t.now.frame.end-le c.requires.3 (rw e at l.invariant.0);
+      gaps_are = filled i (gap i a.v) a.gaps.now a.t.now.frame.end-le c.requires.4 (rw e at l.invariant.1);
     }

@@ -7,7 +7,4 @@ use Rattle.rate_bands.proofs.lists.skip_start.Given as goal
 
 abbrev pub invariant-loop-j : goal.invariant-loop-j
 invariant-loop-j l =
-    (l.f.start ≤ l.j) × (l.j ≤ l.f.end) × (last_boost (alloc_in l.f l.offsets l.caps) (l.j - l.f.start) ≡ skip_start (alloc_in l.f l.offsets l.caps))
-
-abbrev pub decreases-loop-j : goal.decreases-loop-j
-decreases-loop-j l = l.j
+    (l.f.start ≤ l.j) × (last_boost (alloc_in l.f l.offsets l.caps) (l.j - l.f.start) ≡ skip_start (alloc_in l.f l.offsets l.caps))

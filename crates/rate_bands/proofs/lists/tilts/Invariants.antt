@@ -1,5 +1,5 @@
 -- `rate_bands::lists::tilts`: each list is filled up to band j. Assumes nothing.
-use Prim.Native.Nat.{◌-◌, ◌≤◌}
+use Prim.Native.Nat.{◌-◌}
 use mathlib.Core.Path.{◌≡◌}
 use Rattle.laws.specs.Lists.{fill}
 use Rattle.rate_spec.specs.Vectors.{threshold, trim_down, trim_up}
@@ -9,10 +9,7 @@ use Rattle.rate_bands.proofs.lists.tilts.Given as goal
 
 abbrev pub invariant-loop-j : goal.invariant-loop-j
 invariant-loop-j l =
-    (l.f.start ≤ l.j) × (l.j ≤ l.f.end) × (l.thresholds ≡ fill (threshold (bare l.f)) l.f.start (l.j - l.f.start) l.initial.thresholds)
+    (l.thresholds ≡ fill (threshold (bare l.f)) l.f.start (l.j - l.f.start) l.initial.thresholds)
     × (l.scales ≡ fill (scale (bare l.f)) l.f.start (l.j - l.f.start) l.initial.scales)
     × (l.ups ≡ fill (trim_up (bare l.f)) l.f.start (l.j - l.f.start) l.initial.ups)
     × (l.downs ≡ fill (trim_down (bare l.f)) l.f.start (l.j - l.f.start) l.initial.downs)
-
-abbrev pub decreases-loop-j : goal.decreases-loop-j
-decreases-loop-j l = l.f.end - l.j

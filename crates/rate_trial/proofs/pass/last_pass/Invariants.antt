@@ -11,8 +11,6 @@ use Rattle.rate_trial.proofs.pass.last_pass.Given as goal
 
 abbrev pub invariant-loop-j : goal.invariant-loop-j
 invariant-loop-j l =
-    Down l.f l.caps (point_bits l.lows l.gaps l.q) (kept_bits (alloc_in l.f [] l.caps) (point_bits l.lows l.gaps l.q)) l.j l.reached l.sum
-    × (l.bits ≡ fill (kept_bits (alloc_in l.f [] l.caps) (point_bits l.lows l.gaps l.q)) l.j (l.f.end - l.j) l.initial.bits)
-
-abbrev pub decreases-loop-j : goal.decreases-loop-j
-decreases-loop-j l = l.j
+    let x = point_bits l.p.lows.now l.p.gaps.now l.p.q in
+    let kept = kept_bits (alloc_in l.p.f [] l.caps) x in
+    Down l.p.f l.caps x kept l.j l.reached l.sum × (l.bits ≡ fill kept l.j (l.p.f.end - l.j) l.initial.bits)

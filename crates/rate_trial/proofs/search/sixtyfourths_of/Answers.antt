@@ -1,36 +1,24 @@
--- `rate_trial::search::sixtyfourths_of`: the count of trials tells what is left of the search. Assumes nothing.
-use Prim.Native.Nat.{◌+◌, ◌/◌}
+-- `rate_trial::search::sixtyfourths_of`: the search is the definition's, in at most 6 trials. Assumes nothing.
+use mathlib.Core.Path.{ap}
 use native.Mathlib.Omega.{arith}
-use Rattle.rate_spec.specs.Trials.{sixtyfourths}
-use Rattle.rate_trial.proofs.Halving.{search_found, search_over, search_under}
+use Rattle.std.proofs.Common.{rules}
+use Rattle.rate_bands.specs.Inputs.{alloc_in}
+use Rattle.rate_spec.specs.Trials.{over, sixtyfourths}
+use Rattle.rate_spec.specs.Vectors.{interpolated}
 use Rattle.rate_trial.proofs.Points.{point_ok, point_says}
 use Rattle.rate_trial.proofs.search.sixtyfourths_of.Goals as goal
-
-pub over_of-over-requires : goal.over_of-over-requires
-over_of-over-requires c =
-    let l = c.loop-lo in
-    let a = c.args in
-    let p = c.requires in
-    (p.0, p.1.caps-le, p.2, p.3, point_ok a.f a.offsets.now a.caps.now p.0 p.1 a.v p.4 ((l.lo + l.hi) / 2) (omega arith))
-
-pub loop-lo-preserved-then-over : goal.loop-lo-preserved-then-over
-loop-lo-preserved-then-over c =
-    let a = c.args in
-    let p = c.requires in
-    let mid = (c.loop-lo.lo + c.loop-lo.hi) / 2 in
-    let o = point_says a.f a.offsets.now a.caps.now p.0 p.1 a.v p.4 mid c.over_of-over.ensures c.if-over.true in
-    search_over _ 6 0 64 c.loop-lo.lo c.loop-lo.hi c.loop-lo.trials c.loop-lo.invariant (omega arith) o
-
-pub loop-lo-preserved : goal.loop-lo-preserved
-loop-lo-preserved c =
-    let a = c.args in
-    let p = c.requires in
-    let mid = (c.loop-lo.lo + c.loop-lo.hi) / 2 in
-    let o = point_says a.f a.offsets.now a.caps.now p.0 p.1 a.v p.4 mid c.over_of-over.ensures c.if-over.false in
-    search_under _ 6 0 64 c.loop-lo.lo c.loop-lo.hi c.loop-lo.trials c.loop-lo.invariant (omega arith) o
 
 pub returns : goal.returns
 unfolding sixtyfourths
 returns c =
-    let l = c.loop-lo in
-    (search_found _ 6 0 64 l.lo l.hi l.trials l.invariant (omega arith), omega arith)
+    let a = alloc_in c.args.f c.args.offsets.now c.args.caps.now in
+    let p = c.requires in
+    let e =
+    c.halve.ensures.halved (λ q. over a (interpolated a c.args.v q)) 6 (omega arith)
+    (λ x r h m. point_says c.args.f c.args.offsets.now c.args.caps.now p.0 p.1 c.args.v p.4 x (search rules)) in
+    (ap (λ r. r.0) e, omega (arith, c.halve.ensures.within))
+
+pub halve-requires-clause-tries : goal.halve-requires-clause-tries
+halve-requires-clause-tries c x h =
+    let p = c.requires in
+    (p.0, point_ok c.args.f c.args.offsets.now c.args.caps.now p.0 p.1 c.args.v p.4 x (omega arith), p.1.caps-le, p.2, p.3)

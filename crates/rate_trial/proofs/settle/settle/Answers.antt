@@ -28,18 +28,20 @@ sixtyfourths_of-q-requires c =
       r.3,
     )
 
+pub invariant_of-p : goal.invariant_of-p
+invariant_of-p c =
+    let a = c.args in
+    let p = c.requires in
+    let r = c.choose-found in
+    let q = c.sixtyfourths_of-q in
+    record { frame = p.0; figures = point_ok a.f a.offsets.now a.caps.now p.0 p.1 r.result.v r.ensures.3 q.result q.ensures.1 }
+
 pub last_pass-sum-requires : goal.last_pass-sum-requires
 last_pass-sum-requires c =
     let a = c.args in
     let p = c.requires in
     let b = bare a.f in
-    let r = c.choose-found in
-    let q = c.sixtyfourths_of-q in (
-      p.0,
-      p.1.caps-le,
-      filled b (threshold b) a.thresholds.now p.0.end-le p.3 r.ensures.2,
-      point_ok a.f a.offsets.now a.caps.now p.0 p.1 r.result.v r.ensures.3 q.result q.ensures.1,
-    )
+    (p.1.caps-le, filled b (threshold b) a.thresholds.now p.0.end-le p.3 c.choose-found.ensures.2)
 
 pub overflow_sub-result : goal.overflow_sub-result
 overflow_sub-result c =

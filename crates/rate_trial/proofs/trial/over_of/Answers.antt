@@ -10,7 +10,7 @@ unfolding over budget skip_reserve intensity_reserve dual_reserve stereo_fits
 returns c =
     let a = c.args in
     rw (
-      c.requires.2,
-      together a.f a.caps.now (point_bits a.lows.now a.gaps.now a.q) c.top_of-top.ensures
+      c.requires.1,
+      together a.p.now.f a.caps.now (point_bits a.p.now.lows.now a.p.now.gaps.now a.p.now.q) c.top_of-top.ensures
           c.rest_of-rest.ensures.0,
     )

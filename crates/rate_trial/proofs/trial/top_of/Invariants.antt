@@ -6,7 +6,4 @@ use Rattle.rate_trial.proofs.trial.top_of.Given as goal
 
 abbrev pub invariant-loop-j : goal.invariant-loop-j
 invariant-loop-j l =
-    Above (bare l.f) (point_bits l.lows l.gaps l.q) l.j l.sum
-
-abbrev pub decreases-loop-j : goal.decreases-loop-j
-decreases-loop-j l = l.j
+    Above (bare l.p.f) (point_bits l.p.lows.now l.p.gaps.now l.p.q) l.j l.sum

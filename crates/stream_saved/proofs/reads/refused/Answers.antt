@@ -4,4 +4,4 @@ use Rattle.stream_saved.proofs.reads.refused.Goals as goal
 
 pub returns : goal.returns
 unfolding no_record
-returns c = rw c.fresh-fresh.ensures
+returns c = rw c.fresh.ensures

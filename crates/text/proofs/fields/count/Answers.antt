@@ -1,17 +1,18 @@
--- `text::fields::count`: the invariant: the fields of what remains and the count are together one more than the fields of the line. Assumes nothing.
-use native.Mathlib.Omega.{arith}
-use Rattle.text.proofs.FieldLaws.{count_next, count-last}
+-- `text::fields::count`: the chain counts the tabs, of which there is one less than fields. Assumes nothing.
+use Prim.Native.Nat.{◌+◌}
+use mathlib.Core.Path.{◌≡◌, ap, sym, ◌∙◌}
+use mathlib.Core.List.{List}
+use Prim.Native.Nat.{ℕ}
+use lib.Dec.{eqb}
+use lib.ListN.{length}
+use borrow.Author.Rules.{rules}
+use Rattle.std.specs.List.{count_by}
+use Rattle.std.proofs.lemmas.List.Splits.{length-slice_split}
+use Rattle.text.proofs.FieldLaws.{separated_is}
 use Rattle.text.proofs.fields.count.Goals as goal
-
-pub loop-i-preserved : goal.loop-i-preserved
-loop-i-preserved c =
-    let l = c.loop-i in
-    let p = count_next c.args.s.now l.i l.n c.loop-i-test.true
-    c.more_at_tab-n.ensures in
-    (omega arith, omega (arith, p.1), omega (arith, p.0))
 
 pub returns : goal.returns
 returns c =
-    let l = c.loop-i in
-    let p = count-last c.args.s.now l.i c.loop-i-test.false in
-    omega arith
+    let s = c.args.s.now in
+    let n : c.count.result ≡ count_by (λ b. eqb b 9) s = search rules in
+    ap (λ (k : ℕ). k + 1) n ∙ sym (length-slice_split (λ b. eqb b 9) s) ∙ ap (λ (fs : List (List ℕ)). length fs) (separated_is 9 s)

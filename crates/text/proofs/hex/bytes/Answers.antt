@@ -10,13 +10,15 @@ pub store-requires : goal.store-requires
 store-requires c =
     let s = c.args.s.now in
     let out = c.args.out.now in
-    let e : hex_bytes (length out) s ≡ true = sym c.is_bytes.ensures ∙ c.if-is_bytes.true in
+    let e : hex_bytes (length out) s ≡ true = sym c.is_bytes-good.ensures ∙ c.if-good.true in
     (bytes-few (length out) s e, bytes-digits (length out) s e)
 
-pub returns-then-is_bytes : goal.returns-then-is_bytes
-returns-then-is_bytes c =
-    bytes-stored c.args.s.now c.args.out.now c.is_bytes.ensures c.if-is_bytes.true c.store.ensures
+pub returns-then-good : goal.returns-then-good
+returns-then-good c =
+    let p = c.is_bytes-good.ensures in
+    (p, bytes-stored c.args.s.now c.args.out.now (sym p ∙ c.if-good.true) c.store.ensures)
 
-pub returns : goal.returns
-returns c = bytes-refused c.args.s.now c.args.out.now c.is_bytes.ensures
-    c.if-is_bytes.false
+pub returns-else-good : goal.returns-else-good
+returns-else-good c =
+    let p = c.is_bytes-good.ensures in
+    (p, bytes-refused c.args.s.now c.args.out.now (sym p ∙ c.if-good.false))

@@ -9,9 +9,8 @@ pub returns-then-b-eq10 : goal.returns-then-b-eq10
 returns-then-b-eq10 c =
     let a = c.args in
     let l = c.loop-i in
-    filled-at-feed (length a.buf.now) (take l.k l.buf) (take a.n a.buf.now) a.block.now l.i a.at l.k
-    c.loop-i-test.true
-    c.if-b-eq10.true l.invariant.2 l.invariant.1 l.invariant.4
+    filled-at-feed (length a.buf.now) (take l.k l.buf) (take a.n a.buf.now) a.block.now l.i a.at l.k (omega arith) c.if-b-eq10.true (omega arith)
+    l.invariant.1 l.invariant.2
 
 pub loop-i-preserved : goal.loop-i-preserved
 loop-i-preserved c =
@@ -21,9 +20,6 @@ loop-i-preserved c =
     let s = a.block.now in (
       p.auto.buf ∙ l.invariant.0,
       omega (arith, p.ensures.1, l.invariant.0),
-      omega arith,
-      omega arith,
-      same-after-byte (length a.buf.now) (take l.k l.buf) (take a.n a.buf.now) s l.i a.at p.ensures.0 l.invariant.0
-          c.loop-i-test.true
-          c.if-b-eq10.false l.invariant.4,
+      same-after-byte (length a.buf.now) (take l.k l.buf) (take a.n a.buf.now) s l.i a.at p.ensures.0 l.invariant.0 (omega arith)
+          c.if-b-eq10.false l.invariant.2,
     )

@@ -1,45 +1,15 @@
--- `text::write::figures`: one case for each power of ten. Assumes nothing.
-use borrow.Author.Tests.{lt-ltb, le-ltb}
-use borrow.Author.Rules.{rules}
+-- `text::write::figures`: 0 has one figure, and any other number one more than its logarithm. Assumes nothing.
+use native.Mathlib.Omega.{arith}
+use borrow.Author.Tests.{lt-ltb}
 use Rattle.text.specs.Written.{figures_of}
+use Rattle.text.proofs.Back.{figures-log}
 use Rattle.text.proofs.write.figures.Goals as goal
 
-pub returns-then-n-lt10 : goal.returns-then-n-lt10
+pub returns-then-n-eq0 : goal.returns-then-n-eq0
 unfolding figures_of
-returns-then-n-lt10 c = search (rules, lt-ltb, le-ltb)
+returns-then-n-eq0 c = (rw (lt-ltb c.args.n 10 (omega arith)), omega arith)
 
-pub returns-then-n-lt100 : goal.returns-then-n-lt100
-unfolding figures_of
-returns-then-n-lt100 c = search (rules, lt-ltb, le-ltb)
-
-pub returns-then-n-lt1000 : goal.returns-then-n-lt1000
-unfolding figures_of
-returns-then-n-lt1000 c = search (rules, lt-ltb, le-ltb)
-
-pub returns-then-n-lt10000 : goal.returns-then-n-lt10000
-unfolding figures_of
-returns-then-n-lt10000 c = search (rules, lt-ltb, le-ltb)
-
-pub returns-then-n-lt100000 : goal.returns-then-n-lt100000
-unfolding figures_of
-returns-then-n-lt100000 c = search (rules, lt-ltb, le-ltb)
-
-pub returns-then-n-lt1000000 : goal.returns-then-n-lt1000000
-unfolding figures_of
-returns-then-n-lt1000000 c = search (rules, lt-ltb, le-ltb)
-
-pub returns-then-n-lt10000000 : goal.returns-then-n-lt10000000
-unfolding figures_of
-returns-then-n-lt10000000 c = search (rules, lt-ltb, le-ltb)
-
-pub returns-then-n-lt100000000 : goal.returns-then-n-lt100000000
-unfolding figures_of
-returns-then-n-lt100000000 c = search (rules, lt-ltb, le-ltb)
-
-pub returns-then-n-lt1000000000 : goal.returns-then-n-lt1000000000
-unfolding figures_of
-returns-then-n-lt1000000000 c = search (rules, lt-ltb, le-ltb)
-
-pub returns : goal.returns
-unfolding figures_of
-returns c = search (rules, lt-ltb, le-ltb)
+pub returns-else-n-eq0 : goal.returns-else-n-eq0
+returns-else-n-eq0 c =
+    let l = c.ilog10.ensures in
+    (figures-log c.args.n c.ilog10.result (omega arith) l.power_le l.next_power_gt, omega (arith, l.bound))

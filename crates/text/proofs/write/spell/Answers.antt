@@ -8,15 +8,11 @@ use Rattle.text.proofs.write.spell.Goals as goal
 pub loop-i-preserved : goal.loop-i-preserved
 loop-i-preserved c =
     let l = c.loop-i in
-    let a = c.args in (
-      omega arith,
-      simp length-set l.invariant.1,
-      spell_next a.base l.buf a.at l.i l.rest c.loop-i-test.true c.glyph.ensures ∙
-          l.invariant.2,
-    )
+    let a = c.args in
+    (simp length-set l.invariant.0, spell_next a.base l.buf a.at l.i l.rest (omega arith) c.glyph.ensures ∙ l.invariant.1)
 
 pub returns : goal.returns
 returns c =
     let l = c.loop-i in
     let a = c.args in
-    spell-none a.base l.buf a.at l.i l.rest c.loop-i-test.false ∙ l.invariant.2
+    spell-none a.base l.buf a.at l.i l.rest (omega arith) ∙ l.invariant.1

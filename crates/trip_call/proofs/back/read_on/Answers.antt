@@ -3,17 +3,17 @@ use Rattle.rate.specs.Question.{lists}
 use Rattle.trip_call.proofs.Backing.{back_differs, back_same}
 use Rattle.trip_call.proofs.back.read_on.Goals as goal
 
-pub returns-in-Same : goal.returns-in-Same
-returns-in-Same c =
+pub returns-in-Some : goal.returns-in-Some
+returns-in-Some c =
     let a = c.args in
-    back_same a.symbols.now a.tables.now a.q a.offsets.now a.caps.now a.y
-    (lists a.pulses.now a.fine.now a.priorities.now) a.s.now a.w a.buf.now a.d c.pair_row-answer.result c.pair_row-answer.new.buf
-    c.pair_row-answer.ensures c.in-Same.p c.in-Same.is c.same_tells-first.ensures
+    back_same a.asked.symbols.now a.asked.tables.now a.asked.q a.asked.offsets.now a.asked.caps.now a.y.now.figures
+    (lists a.y.now.pulses a.y.now.fine a.y.now.priorities) a.s.now a.w a.buf.now a.d c.pair_row.result c.pair_row.new.buf
+    c.pair_row.ensures c.in-Some.p c.in-Some.is c.same_tells-first.ensures
     c.same_shares.ensures
 
-pub returns-in-Differs : goal.returns-in-Differs
-returns-in-Differs c =
+pub returns-in-None : goal.returns-in-None
+returns-in-None c =
     let a = c.args in
-    back_differs a.symbols.now a.tables.now a.q a.offsets.now a.caps.now a.y
-    (lists a.pulses.now a.fine.now a.priorities.now) a.s.now a.w a.buf.now a.d c.pair_row-answer.result c.pair_row-answer.new.buf
-    c.pair_row-answer.ensures c.in-Differs.is
+    back_differs a.asked.symbols.now a.asked.tables.now a.asked.q a.asked.offsets.now a.asked.caps.now a.y.now.figures
+    (lists a.y.now.pulses a.y.now.fine a.y.now.priorities) a.s.now a.w a.buf.now a.d c.pair_row.result c.pair_row.new.buf
+    c.pair_row.ensures c.in-None.is

@@ -3,19 +3,19 @@ use Rattle.rate.specs.Question.{lists, no_entries}
 use Rattle.trip_call.proofs.Backing.{shares-done, shares_no}
 use Rattle.trip_call.proofs.back.same_shares.Goals as goal
 
-pub returns-in-Done : goal.returns-in-Done
+pub returns-in-Ok : goal.returns-in-Ok
 unfolding no_entries
-returns-in-Done c =
+returns-in-Ok c =
     let a = c.args in
     let k = c.clt_compute_allocation_read-answer in
-    shares-done a.q a.offsets.now a.caps.now a.y (lists a.pulses.now a.fine.now a.priorities.now) a.s.now a.e
-    (lists k.new.pulses k.new.fine k.new.priorities) k.ensures c.in-Done.x
-    c.in-Done.is c.same_answers.ensures
+    shares-done a.asked.q a.asked.offsets.now a.asked.caps.now a.y.now.figures (lists a.y.now.pulses a.y.now.fine a.y.now.priorities) a.s.now a.e
+    (lists k.new.pulses k.new.fine k.new.priorities) k.ensures c.in-Ok.figures
+    c.in-Ok.is c.same_answers.ensures
 
-pub returns-in-Refused : goal.returns-in-Refused
+pub returns-in-Err : goal.returns-in-Err
 unfolding no_entries
-returns-in-Refused c =
+returns-in-Err c =
     let a = c.args in
     let k = c.clt_compute_allocation_read-answer in
-    shares_no a.q a.offsets.now a.caps.now a.y (lists a.pulses.now a.fine.now a.priorities.now) a.s.now a.e
-    (lists k.new.pulses k.new.fine k.new.priorities) k.ensures c.in-Refused.is
+    shares_no a.asked.q a.asked.offsets.now a.asked.caps.now a.y.now.figures (lists a.y.now.pulses a.y.now.fine a.y.now.priorities) a.s.now a.e
+    (lists k.new.pulses k.new.fine k.new.priorities) k.ensures c.in-Err.is

@@ -1,16 +1,20 @@
 -- `trip_call::reads::read_one`: by the kind. Assumes nothing.
-use Rattle.trip_call.proofs.Stepping.{of_later, read-bit, read_table}
+use Rattle.trip_call.proofs.Stepping.{read-bit, read_table, read-uniform, read-raw, read-laplace}
 use Rattle.trip_call.proofs.reads.read_one.Goals as goal
 
-pub returns-then-g-eq0 : goal.returns-then-g-eq0
-returns-then-g-eq0 c = let a = c.args in read-bit a.g a.s.now a.d a.tables.now
-    c.if-g-eq0.true c.bit_logp-answer.ensures c.plain.ensures
+pub returns-in-Bit : goal.returns-in-Bit
+returns-in-Bit c = let a = c.args in read-bit a.g a.s.now a.d a.tables.now c.in-Bit.is c.bit_logp.ensures
 
-pub returns-then-g-eq1 : goal.returns-then-g-eq1
-returns-then-g-eq1 c =
-    let a = c.args in read_table a.g a.s.now a.d a.tables.now c.if-g-eq0.false c.if-g-eq1.true
-    c.entries-t.ensures c.icdf-answer.ensures c.plain-then-g-eq1.ensures
+pub returns-in-Table : goal.returns-in-Table
+returns-in-Table c =
+    let a = c.args in read_table a.g a.s.now a.d a.tables.now c.in-Table.is c.entries.ensures c.icdf.ensures
 
-pub returns : goal.returns
-returns c = let a = c.args in rw (of_later a.g a.tables.now
-    c.if-g-eq0.false c.if-g-eq1.false) c.read_later.ensures
+pub returns-in-Uniform : goal.returns-in-Uniform
+returns-in-Uniform c = let a = c.args in read-uniform a.g a.s.now a.d a.tables.now c.in-Uniform.is c.uint.ensures
+
+pub returns-in-Raw : goal.returns-in-Raw
+returns-in-Raw c = let a = c.args in read-raw a.g a.s.now a.d a.tables.now c.in-Raw.is c.bits.ensures
+
+pub returns-in-Laplace : goal.returns-in-Laplace
+returns-in-Laplace c =
+    let a = c.args in read-laplace a.g a.s.now a.d a.tables.now c.in-Laplace.is c.ec_laplace_decode.ensures c.counted.ensures

@@ -1,7 +1,7 @@
--- `trip_call::rows::pair_both`: by the comparison. Assumes nothing.
-use Rattle.trip_call.proofs.Running.{pair_yes}
+-- `trip_call::rows::pair_both`: by the comparison. The check finds this alone, but the edit larger_value_is_the_same would then fall only by a limit of the
+-- search. Assumes nothing.
+use mathlib.Core.Path.{refl}
 use Rattle.trip_call.proofs.rows.pair_both.Goals as goal
 
 pub returns-then-x-y : goal.returns-then-x-y
-returns-then-x-y c = let a = c.args in pair_yes a.x a.y c.same_tells-tells.ensures
-    c.if-x-y.true
+returns-then-x-y c = rw (← c.same_tells-tells.ensures, c.if-x-y.true) refl

@@ -1,36 +1,29 @@
--- `trip_call::rows::pair_row`: what is left of the row gives what all of it gave at the start. Assumes nothing.
-use Prim.Native.Nat.{◌/◌}
+-- `trip_call::rows::pair_row`: what is left of the row gives what all of it gives. Assumes nothing.
 use mathlib.Core.Path.{◌∙◌}
 use native.Mathlib.Omega.{arith}
-use lib.ListN.{length}
 use Rattle.entenc.specs.Write.{wr}
-use Rattle.trip_call.proofs.Running.{pair_all, pair_differs, pair_end, pair_on}
+use Rattle.trip_call.proofs.Running.{pair_differs, pair_end, pair_on}
 use Rattle.trip_call.proofs.rows.pair_row.Goals as goal
 
 pub loop-i-preserved : goal.loop-i-preserved
 loop-i-preserved c =
     let a = c.args in
     let k = c.loop-i in (
-      k.invariant.0,
-      omega arith,
-      c.pair_one-answer.auto.buf ∙ k.invariant.2,
-      pair_on a.symbols.now a.tables.now a.s.now _ k.i (wr k.v k.buf) k.e c.pair_one-answer.result
-          c.pair_one-answer.new.buf c.loop-i-test.true c.given_at-g.ensures
-          c.pair_one-answer.ensures k.invariant.3 c.in-Same.p c.in-Same.is,
+      c.pair_one.auto.buf ∙ k.invariant.0,
+      pair_on a.symbols.now a.tables.now a.s.now _ k.i (wr k.both.writer k.buf) k.both.reader c.pair_one.result c.pair_one.new.buf
+          (omega arith) c.given_at-g.ensures c.pair_one.ensures k.invariant.1 c.in_ok-both.both c.in_ok-both.was,
     )
 
-pub returns-in-Differs : goal.returns-in-Differs
-returns-in-Differs c =
+pub returns-in_err-both : goal.returns-in_err-both
+returns-in_err-both c =
     let a = c.args in
     let k = c.loop-i in
-    pair_differs a.symbols.now a.tables.now a.s.now _ k.i (wr k.v k.buf) k.e c.pair_one-answer.result
-    c.pair_one-answer.new.buf c.loop-i-test.true c.given_at-g.ensures
-    c.pair_one-answer.ensures k.invariant.3 c.in-Differs.is ∙ pair_all a.symbols.now a.tables.now a.s.now
-    (length a.symbols.now / 5) (wr a.w a.buf.now) a.d
+    rw c.from_residual.ensures
+    (pair_differs a.symbols.now a.tables.now a.s.now _ k.i (wr k.both.writer k.buf) k.both.reader c.pair_one.result c.pair_one.new.buf
+    (omega arith) c.given_at-g.ensures c.pair_one.ensures k.invariant.1 c.in_err-both.was)
 
 pub returns : goal.returns
 returns c =
     let a = c.args in
     let k = c.loop-i in
-    pair_end a.symbols.now a.tables.now a.s.now _ k.i (wr k.v k.buf) k.e c.loop-i-test.false k.invariant.3 ∙ pair_all
-    a.symbols.now a.tables.now a.s.now (length a.symbols.now / 5) (wr a.w a.buf.now) a.d
+    pair_end a.symbols.now a.tables.now a.s.now _ k.i (wr k.both.writer k.buf) k.both.reader (omega arith) k.invariant.1

@@ -1,5 +1,5 @@
--- `trip_call::rows::pair_row`: what is left of the row gives what all of it gave at the start. Assumes nothing.
-use Prim.Native.Nat.{◌-◌, ◌/◌, ◌≤◌}
+-- `trip_call::rows::pair_row`: what is left of the row gives what all of it gives. Assumes nothing.
+use Prim.Native.Nat.{◌-◌}
 use mathlib.Core.Path.{◌≡◌}
 use lib.ListN.{length}
 use Rattle.entenc.specs.Write.{wr}
@@ -8,9 +8,6 @@ use Rattle.trip_call.proofs.rows.pair_row.Given as goal
 
 abbrev pub invariant-loop-i : goal.invariant-loop-i
 invariant-loop-i l =
-    (l.n ≡ length l.symbols / 5) × (l.i ≤ l.n) × (length l.buf ≡ length l.initial.buf) ×
-    (pair_from l.symbols l.tables l.s (l.n - l.i) l.i (wr l.v l.buf) l.e
-    ≡ pair_from l.symbols l.tables l.s (l.n - l.initial.i) l.initial.i (wr l.initial.v l.initial.buf) l.initial.e)
-
-abbrev pub decreases-loop-i : goal.decreases-loop-i
-decreases-loop-i l = l.n - l.i
+    (length l.buf ≡ length l.initial.buf) ×
+    (pair_from l.symbols l.tables l.s (l.i-end - l.i) l.i (wr l.both.writer l.buf) l.both.reader
+    ≡ pair_from l.symbols l.tables l.s l.i-end 0 (wr l.initial.both.writer l.initial.buf) l.initial.both.reader)

@@ -1,5 +1,5 @@
--- `trip_call::rows::write_row`: what is left of the row gives what all of it gave at the start. Assumes nothing.
-use Prim.Native.Nat.{◌-◌, ◌/◌, ◌≤◌}
+-- `trip_call::rows::write_row`: what is left of the row gives what all of it gives. Assumes nothing.
+use Prim.Native.Nat.{◌-◌}
 use mathlib.Core.Path.{◌≡◌}
 use lib.ListN.{length}
 use Rattle.entenc.specs.Write.{wr}
@@ -8,8 +8,5 @@ use Rattle.trip_call.proofs.rows.write_row.Given as goal
 
 abbrev pub invariant-loop-i : goal.invariant-loop-i
 invariant-loop-i l =
-    (l.n ≡ length l.symbols / 5) × (l.i ≤ l.n) × (length l.buf ≡ length l.initial.buf) ×
-    (row_from l.symbols l.tables (l.n - l.i) l.i (wr l.v l.buf) ≡ row_from l.symbols l.tables (l.n - l.initial.i) l.initial.i (wr l.initial.v l.initial.buf))
-
-abbrev pub decreases-loop-i : goal.decreases-loop-i
-decreases-loop-i l = l.n - l.i
+    (length l.buf ≡ length l.initial.buf) ×
+    (row_from l.symbols l.tables (l.i-end - l.i) l.i (wr l.v l.buf) ≡ row_from l.symbols l.tables l.i-end 0 (wr l.initial.v l.initial.buf))

@@ -7,23 +7,23 @@ use Rattle.trip_call.specs.ReadBack.{agrees}
 use Rattle.trip_call.proofs.Outcomes.{allot-done, allot-refused}
 use Rattle.trip_call.proofs.sends.allot.Goals as goal
 
-pub returns-in-Done : goal.returns-in-Done
+pub returns-in-Ok : goal.returns-in-Ok
 unfolding no_entries
-returns-in-Done c =
+returns-in-Ok c =
     let a = c.args in
-    allot-done a.q a.h a.offsets.now a.caps.now (wr a.v a.buf.now)
+    allot-done a.asked.q a.h a.asked.offsets.now a.asked.caps.now (wr a.v a.buf.now)
     (lists c.clt_compute_allocation_write-answer.new.pulses c.clt_compute_allocation_write-answer.new.fine
     c.clt_compute_allocation_write-answer.new.priorities) c.clt_compute_allocation_write-answer.ensures
-    (agrees a.q a.offsets.now a.caps.now (symbols_of a.symbols.now a.tables.now) a.w
-    (write_all (symbols_of a.symbols.now a.tables.now) (wr a.w a.bytes.now))) c.in-Done.y c.in-Done.is
+    (agrees a.asked.q a.asked.offsets.now a.asked.caps.now (symbols_of a.asked.symbols.now a.asked.tables.now) a.w
+    (write_all (symbols_of a.asked.symbols.now a.asked.tables.now) (wr a.w a.bytes.now))) c.in-Ok.figures c.in-Ok.is
     c.shut.ensures
 
-pub returns-in-Refused : goal.returns-in-Refused
+pub returns-in-Err : goal.returns-in-Err
 unfolding no_entries
-returns-in-Refused c =
+returns-in-Err c =
     let a = c.args in
-    allot-refused a.q a.h a.offsets.now a.caps.now (wr a.v a.buf.now)
+    allot-refused a.asked.q a.h a.asked.offsets.now a.asked.caps.now (wr a.v a.buf.now)
     (lists c.clt_compute_allocation_write-answer.new.pulses c.clt_compute_allocation_write-answer.new.fine
     c.clt_compute_allocation_write-answer.new.priorities) c.clt_compute_allocation_write-answer.ensures
-    (agrees a.q a.offsets.now a.caps.now (symbols_of a.symbols.now a.tables.now) a.w
-    (write_all (symbols_of a.symbols.now a.tables.now) (wr a.w a.bytes.now))) c.in-Refused.is
+    (agrees a.asked.q a.asked.offsets.now a.asked.caps.now (symbols_of a.asked.symbols.now a.asked.tables.now) a.w
+    (write_all (symbols_of a.asked.symbols.now a.asked.tables.now) (wr a.w a.bytes.now))) c.in-Err.is

@@ -2,4 +2,4 @@
 use Rattle.trip_call.proofs.sends.ended.Goals as goal
 
 pub returns : goal.returns
-returns c = rw (c.if-sink.false, ← c.compare.ensures, c.if-compare.false)
+returns c = rw (c.if-u.false, ← c.compare.ensures, c.if-compare.false)

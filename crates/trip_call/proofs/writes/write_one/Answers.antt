@@ -1,18 +1,28 @@
 -- `trip_call::writes::write_one`: by the kind. Assumes nothing.
+use mathlib.Core.Path.{◌∙◌}
+use mir.Syntax.{w32}
+use mir.Facts.{to_z-of_z}
+use borrow.Author.Rules.{rules}
 use Rattle.entenc.specs.Write.{wr}
-use Rattle.trip_call.proofs.Stepping.{of_later, wrote-bit, wrote-table}
+use Rattle.trip_call.proofs.Stepping.{wrote-bit, wrote-table, wrote-uniform, wrote-raw, wrote-laplace}
 use Rattle.trip_call.proofs.writes.write_one.Goals as goal
 
-pub returns-then-g-eq0 : goal.returns-then-g-eq0
-returns-then-g-eq0 c =
-    let a = c.args in wrote-bit a.g (wr a.w a.buf.now) a.tables.now c.if-g-eq0.true c.bit_logp-answer.ensures
-    c.plain.ensures
+pub returns-in-Bit : goal.returns-in-Bit
+returns-in-Bit c = let a = c.args in wrote-bit a.g (wr a.w a.buf.now) a.tables.now c.in-Bit.is c.bit_logp.ensures c.plain.ensures
 
-pub returns-then-g-eq1 : goal.returns-then-g-eq1
-returns-then-g-eq1 c =
-    let a = c.args in wrote-table a.g (wr a.w a.buf.now) a.tables.now c.if-g-eq0.false c.if-g-eq1.true
-    c.entries-t.ensures c.icdf-answer.ensures c.plain-then-g-eq1.ensures
+pub returns-in-Table : goal.returns-in-Table
+returns-in-Table c =
+    let a = c.args in wrote-table a.g (wr a.w a.buf.now) a.tables.now c.in-Table.is c.entries-t.ensures c.icdf.ensures c.plain-in-Table.ensures
 
-pub returns : goal.returns
-returns c =
-    let a = c.args in rw (of_later a.g a.tables.now c.if-g-eq0.false c.if-g-eq1.false) c.write_later.ensures
+pub returns-in-Uniform : goal.returns-in-Uniform
+returns-in-Uniform c =
+    let a = c.args in wrote-uniform a.g (wr a.w a.buf.now) a.tables.now c.in-Uniform.is c.uint.ensures c.plain-in-Uniform.ensures
+
+pub returns-in-Raw : goal.returns-in-Raw
+returns-in-Raw c = let a = c.args in wrote-raw a.g (wr a.w a.buf.now) a.tables.now c.in-Raw.is c.bits.ensures c.plain-in-Raw.ensures
+
+pub returns-in-Laplace : goal.returns-in-Laplace
+returns-in-Laplace c =
+    let a = c.args in
+    wrote-laplace a.g (wr a.w a.buf.now) a.tables.now _ c.in-Laplace.is (to_z-of_z {w = w32} {z = c.value_at.result} (search rules) ∙ c.value_at.ensures)
+    c.ec_laplace_encode.ensures c.counted.ensures

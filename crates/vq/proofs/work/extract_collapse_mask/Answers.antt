@@ -15,10 +15,10 @@ grown : (c : After-bit_of-mask) → let l = c.loop-i in let a = c.args in
 grown c =
     let l = c.loop-i in
     let a = c.args in
-    rw (l.invariant.1, c.bit_of-mask.ensures) (bits-next (length a.iy.now / a.b) a.iy.now l.i)
+    rw (l.invariant, c.bit_of-mask.ensures) (bits-next (length a.iy.now / a.b) a.iy.now l.i)
 
 pub loop-i-init : goal.loop-i-init
-loop-i-init c = (omega arith, bits_none _ _)
+loop-i-init c = bits_none _ _
 
 pub overflow_add-mask : goal.overflow_add-mask
 overflow_add-mask c =
@@ -28,4 +28,4 @@ overflow_add-mask c =
     omega (arith, grown (goal.at.overflow_add-mask c).After-bit_of-mask, bits-lt (length a.iy.now / a.b) a.iy.now (l.i + 1))
 
 pub loop-i-preserved : goal.loop-i-preserved
-loop-i-preserved c = (omega arith, grown (goal.at.loop-i-preserved c).After-bit_of-mask)
+loop-i-preserved c = grown (goal.at.loop-i-preserved c).After-bit_of-mask

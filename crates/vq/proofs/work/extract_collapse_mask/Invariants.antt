@@ -1,11 +1,7 @@
 -- `vq::work::extract_collapse_mask`: the bits of the parts so far. Assumes nothing.
-use Prim.Native.Nat.{◌-◌, ◌≤◌}
 use mathlib.Core.Path.{◌≡◌}
 use Rattle.vq.specs.Mask.{mask_bits}
 use Rattle.vq.proofs.work.extract_collapse_mask.Given as goal
 
 abbrev pub invariant-loop-i : goal.invariant-loop-i
-invariant-loop-i l = (l.i ≤ l.b) × (l.mask ≡ mask_bits l.m l.i l.iy)
-
-abbrev pub decreases-loop-i : goal.decreases-loop-i
-decreases-loop-i l = l.b - l.i
+invariant-loop-i l = l.mask ≡ mask_bits l.m l.i l.iy
