@@ -391,6 +391,9 @@ class Tree:
                 found += self.methods.get(path[-1], [])
             elif len(path) > 1 and (path[-2][0].isupper() or tuple(path[-2:]) in self.of_types):
                 typed = self.of_types.get((path[-2], path[-1]), [])
+                # of a type parameter, which is one letter, the type is not known: what any type has by a trait
+                if not typed and len(path[-2]) == 1:
+                    typed = [f for (_, name), known in self.of_types.items() if name == path[-1] for f in known if f.trait]
                 # what a type has by a trait, the trait declares
                 found += typed + [g for f in typed if f.trait for g in self.of_types.get((f.trait, f.name), [])]
             else:
@@ -404,11 +407,11 @@ class Tree:
 
     def proof_of(self, f):
         """The files of a function's proof: their folder has the function's name, and a `+` before it where the function calls itself."""
-        # the folder of a method of a trait is named by the type and the trait together
-        kind = f"{f.kind}{f.trait or ''}"
+        # the folder of a method of a trait is named by the type, with its arguments, and the trait together
+        kind = rf"{f.kind}\w*{f.trait}" if f.trait else f.kind or ""
         within = [f.source.module + [kind], [kind]] if f.kind else [f.source.module]
-        ways = [".".join(inside + [mark + f.name, name]) for inside in within for mark in ("", "+") for name in PROOF]
-        return [self.modules[f.source.crate, "proofs", w] for w in ways if (f.source.crate, "proofs", w) in self.modules]
+        ways = [r"\.".join([*inside, rf"\+?{f.name}", rf"(?:{'|'.join(PROOF)})"]) for inside in within]
+        return [m for (c, p, w), m in self.modules.items() if (c, p) == (f.source.crate, "proofs") and any(re.fullmatch(way, w) for way in ways)]
 
 
 def repository(root=crates.ROOT):

@@ -34,6 +34,9 @@ fn private() {}
 '''
         gate = 'pub fn refusal() -> u32\n    ensures { λ r. ⌜ r ≡ "requires {" ⌝ }\n{\n    0\n}\n'
         self.assertEqual(contracts.functions({"lib": lib, "gate": gate}), {"Reader::take": True, "out": False, "gate::refusal": False})
+        handed = "pub use gate::{\n    Refusal, refusal,\n};\n" + lib
+        self.assertEqual(contracts.functions({"lib": handed, "gate": gate}), {"Reader::take": True, "out": False, "refusal": False})
+        self.assertEqual(contracts.handed_on("mod gate;\npub use gate::refusal;\nuse other::{a, b};\n"), {"gate::refusal": "refusal"})
 
 
 class Lists(unittest.TestCase):

@@ -81,6 +81,11 @@ class Needed(unittest.TestCase):
         code += "\nfn by<const B: bool>() -> Part {\n}\n\npub fn top() -> Part {\n    Part::load()\n}\n"
         self.assertEqual(found({("a", "src", "lib"): code}, {"a": ["top"]}), ["Held::rest"])
 
+    def test_what_a_type_parameter_has_by_a_trait(self):
+        code = "pub trait Held {\n    fn load() -> Self;\n    fn rest();\n}\n\nimpl Held for Part {\n    fn load() -> Part {\n        by()\n    }\n}\n"
+        code += "\nfn by() -> Part {\n}\n\npub fn top<T: Held>() -> T {\n    T::load()\n}\n"
+        self.assertEqual(found({("a", "src", "lib"): code}, {"a": ["top"]}), ["Held::rest"])
+
     def test_a_function_that_is_handed_on_by_its_name(self):
         code = "fn one(x: u32) {\n}\n\nfn two(x: u32) {\n}\n\nfn each(f: F) {\n}\n\npub fn top(two: u32) {\n    each(one);\n    each(two);\n}\n"
         self.assertEqual(found({("a", "src", "lib"): code}, {"a": ["top"]}), ["two"])
