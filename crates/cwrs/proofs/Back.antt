@@ -149,7 +149,7 @@ written y W j n k i v k' i' h l ev ek ei w =
     rw (add-one, take-suc-set y j v l, append_assoc, ← add-one) (ap (λ (t : List ℤ). take j y ++ t) (sym s) ∙ w)
 
 -- what the loop leaves is silent: there is no place or no pulse
-silent : (j n k i : ℕ) → (ltb j n && ltb 0 k) ≡ false → word (n - j) k i ≡ replicate (n - j) (pos 0)
+pub silent : (j n k i : ℕ) → (ltb j n && ltb 0 k) ≡ false → word (n - j) k i ≡ replicate (n - j) (pos 0)
 silent j n zero i t = word_none (n - j) i
 silent j n (suc k) i t =
     by_le n j (λ h. let z : n - j ≡ 0 = omega arith in rw (z, word-zero))

@@ -139,11 +139,6 @@ pub stopped-says : {A B : Type 0} (gate : Result A Refusal) (out : Result B Refu
     → said out ≡ refused (verdict gate)
 stopped-says gate out why was h = let p = err_from_is_err_and out h in rw (p.1, p.2, was) refl
 
--- its number
-pub stopped : {A B : Type 0} (gate : Result A Refusal) (out : Result B Refusal) (why : Refusal) → gate ≡ Err why → IsErrAnd out (λ e. e ≡ why)
-    → verdict out ≡ verdict gate
-stopped gate out why was h = rw (stopped-says gate out why was h) refl
-
--- which is not 0
+-- the number of a gate that stops a call is not 0
 pub stopped-some : {A : Type 0} (gate : Result A Refusal) (why : Refusal) → gate ≡ Err why → verdict gate ≡ 0 → ⊥
 stopped-some gate why was e = some why (sym (ap verdict was) ∙ e)

@@ -9,7 +9,7 @@ ghost use Rattle.entcode.specs.Range.{ilog};
 ghost use Rattle.entcode.specs.Tell.{tell_of, eighths, tell_frac_of};
 ghost use Rattle.entcode.specs.Counts.{counts_ok, tell_ok};
 
-pub use reasons::{Refusal, refusal_of};
+pub use reasons::{Refusal, Verdict, refusal_of};
 
 // A value, and the coder after it.
 #[derive(Clone, Copy)]

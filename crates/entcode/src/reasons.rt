@@ -1,5 +1,5 @@
 // Why a call is refused, and the one order in which that is asked: document 01, "When the answer is no".
-ghost use Rattle.std.specs.Prelude.{◌≡◌};
+ghost use Rattle.std.specs.Prelude.{◌≡◌, eqb, ℕ};
 ghost use Rattle.entcode.specs.Refusal.{number_of, refusal, last_two};
 ghost use Rattle.entcode.specs.Said.{verdict};
 
@@ -53,39 +53,92 @@ impl From<Refusal> for u32 {
     }
 }
 
+// What a gate, or what a call's own rules say: nothing is refused, or what is. The calls say it by a Result, and a number says it too, 0 where nothing is
+// refused, whatever number another rule gives.
+pub trait Verdict: Copy {
+    // The number, 0 where nothing is refused.
+    ghost number: { Self → ℕ };
+
+    // Nothing is refused.
+    fn none() -> Self
+        ensures { number result ≡ 0 };
+
+    // This is refused.
+    fn refused(why: Refusal) -> Self
+        ensures { number result ≡ number_of why };
+
+    // Is nothing refused?
+    fn accepts(self) -> bool
+        ensures { result ≡ eqb (number self) 0 };
+}
+
+impl Verdict for Result<(), Refusal> {
+    ghost number = { verdict };
+
+    fn none() -> Result<(), Refusal> {
+        Ok(())
+    }
+
+    fn refused(why: Refusal) -> Result<(), Refusal> {
+        Err(why)
+    }
+
+    fn accepts(self) -> bool {
+        self.is_ok()
+    }
+}
+
+impl Verdict for u32 {
+    ghost number = { λ n. n };
+
+    fn none() -> u32 {
+        0
+    }
+
+    fn refused(why: Refusal) -> u32 {
+        u32::from(why)
+    }
+
+    fn accepts(self) -> bool {
+        self == 0
+    }
+}
+
 // The first refusal that applies, in document 01's order. `special` is what the call's own rules say.
-pub fn refusal_of(
+pub fn refusal_of<V: Verdict>(
     lengths: bool,
     numbers: bool,
     lists: bool,
-    special: Result<(), Refusal>,
+    special: V,
     unclosed: bool,
     fits: bool,
-) -> Result<(), Refusal>
-    ensures { verdict result ≡ refusal lengths numbers lists (verdict special) unclosed fits }
+) -> V
+    ensures { V.number result ≡ refusal lengths numbers lists (V.number special) unclosed fits }
 {
     if !lengths {
-        return Err(Refusal::Length);
+        return V::refused(Refusal::Length);
     }
     if !numbers {
-        return Err(Refusal::Number);
+        return V::refused(Refusal::Number);
     }
     if !lists {
-        return Err(Refusal::Entry);
+        return V::refused(Refusal::Entry);
     }
-    special?;
+    if !special.accepts() {
+        return special;
+    }
     last_two(unclosed, fits)
 }
 
 // The two that come last: a write after close, and a tell above its bound.
-fn last_two(unclosed: bool, fits: bool) -> Result<(), Refusal>
-    ensures { verdict result ≡ last_two unclosed fits }
+fn last_two<V: Verdict>(unclosed: bool, fits: bool) -> V
+    ensures { V.number result ≡ last_two unclosed fits }
 {
     if !unclosed {
-        return Err(Refusal::Closed);
+        return V::refused(Refusal::Closed);
     }
     if !fits {
-        return Err(Refusal::PastEnd);
+        return V::refused(Refusal::PastEnd);
     }
-    Ok(())
+    V::none()
 }

@@ -5,7 +5,7 @@ ghost use Rattle.entcode.specs.Sym.{falls};
 ghost use Rattle.entdec.specs.Rule.{reader_ok, read_refusal};
 
 use super::Reader;
-use entcode::Refusal;
+use entcode::{Refusal, Verdict};
 
 impl Reader {
     // Does the state meet its rule?
@@ -27,15 +27,15 @@ impl Reader {
     }
 
     // The refusal of a call that can read symbols. n bytes are lent; lengths, numbers, lists and special are what the call found.
-    pub fn refusal(
+    pub fn refusal<V: Verdict>(
         self,
         n: usize,
         lengths: bool,
         numbers: bool,
         lists: bool,
-        special: Result<(), Refusal>,
-    ) -> Result<(), Refusal>
-        ensures { verdict result ≡ read_refusal n self lengths numbers lists (verdict special) }
+        special: V,
+    ) -> V
+        ensures { V.number result ≡ read_refusal n self lengths numbers lists (V.number special) }
     {
         let fits = entcode::tell_ok(self.storage, self.total, self.rng);
         let known = self.sound() & numbers;

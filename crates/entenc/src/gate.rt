@@ -6,7 +6,7 @@ ghost use Rattle.entcode.specs.Sym.{falls};
 ghost use Rattle.entenc.specs.Rule.{writer_ok, is_open, write_refusal};
 
 use super::Writer;
-use entcode::Refusal;
+use entcode::{Refusal, Verdict};
 
 impl Writer {
     // Does the state keep the rule of a writer? Any numbers are answered.
@@ -32,15 +32,15 @@ impl Writer {
     }
 
     // The refusal of a call that can write symbols. n bytes are lent; lengths, numbers, lists and special are what the call found.
-    pub fn refusal(
+    pub fn refusal<V: Verdict>(
         self,
         n: usize,
         lengths: bool,
         numbers: bool,
         lists: bool,
-        special: Result<(), Refusal>,
-    ) -> Result<(), Refusal>
-        ensures { verdict result ≡ write_refusal n self lengths numbers lists (verdict special) }
+        special: V,
+    ) -> V
+        ensures { V.number result ≡ write_refusal n self lengths numbers lists (V.number special) }
     {
         let s = self.sink;
         let unclosed = !self.closed;

@@ -93,7 +93,9 @@ impl Writer {
         self.narrow(buf, add, rng)
     }
 
-    // One bit, whose 1 has the upper one of 2^logp parts of the range.
+    // One bit, whose 1 has the upper one of 2^logp parts of the range. Put into its callers: as a call, with the state there and back through memory, it makes
+    // the exported call a third slower.
+    #[inline(always)]
     pub fn put_bit(self, buf: &mut [u8], value: u32, logp: u32) -> Writer
         requires { Ready 1 (wr self buf.old) × (1 ≤ logp) × (logp ≤ 15) }
         ensures { wr result buf.new ≡ write_sym (bit logp) value (wr self buf.old) }

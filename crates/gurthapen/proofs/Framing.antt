@@ -10,16 +10,15 @@ use lib.ListN.{length}
 use mir.Syntax.{w32}
 use mir.Val.{SFits, to_z, of_z}
 use mir.Facts.{to_z-of_z}
-use Rattle.entcode.specs.Said.{Said, answer}
+use Rattle.entcode.specs.Said.{answer}
 use Rattle.entdec.specs.declared.Reader.{Reader}
 use Rattle.entdec.proofs.Lengths.{wrong_lengths}
-use Rattle.stream.specs.declared.Applied.{Applied}
 use Rattle.stream.specs.declared.Record.{Record}
-use Rattle.stream.specs.Frame.{call, refusal_frame, frame_answer, frame_said, framed}
+use Rattle.stream.specs.Frame.{Framed, call, refusal_frame, frame_answer, framed}
 use Rattle.gurthapen_state.specs.Record.{is_record}
 use Rattle.gurthapen_state.specs.State.{is_stored}
 use Rattle.gurthapen_answer.specs.Result.{result, result_of}
-use Rattle.gurthapen_answer.specs.Record.{lists_applied, lists_framed}
+use Rattle.gurthapen_answer.specs.Record.{lists_framed}
 use Rattle.gurthapen_answer.proofs.Exports.{both, stored}
 
 -- three lengths are right
@@ -40,10 +39,10 @@ abbrev back : ℤ → ℤ
 back z = to_z w32 (of_z w32 z)
 
 -- what is left of it, with numbers that were handed on
-pub frame_of : {y : Said Applied} {r : ℕ} {x' : (List Float × List ℕ) × List ℤ} (x : (List Float × List ℕ) × List ℤ) {h h' : Record} {d d' : Reader}
+pub frame_of : {y : Framed} {r : ℕ} {x' : (List Float × List ℕ) × List ℤ} (x : (List Float × List ℕ) × List ℤ) {h h' : Record} {d d' : Reader}
     (s : List ℕ) (number : ℕ) {c lm start end intra : ℤ} → SFits w32 c → SFits w32 lm → SFits w32 start → SFits w32 end → SFits w32 intra
-    → h ≡ h' → d ≡ d' → y ≡ frame_said (framed h (call d s number (back c) (back lm) (back start) (back end) (back intra)))
-    → result r x' ≡ result_of (lists_applied y) x → result r x' ≡ result_of (lists_framed (framed h' (call d' s number c lm start end intra))) x
+    → h ≡ h' → d ≡ d' → y ≡ framed h (call d s number (back c) (back lm) (back start) (back end) (back intra))
+    → result r x' ≡ result_of (lists_framed y) x → result r x' ≡ result_of (lists_framed (framed h' (call d' s number c lm start end intra))) x
 frame_of x s number c lm start end intra same-h same-d e l =
     rw (rw (to_z-of_z c, to_z-of_z lm, to_z-of_z start, to_z-of_z end, to_z-of_z intra, same-h, same-d) at e) at l
 

@@ -1,28 +1,23 @@
 // Answers of stream, and of restoring.
 ghost use Rattle.std.specs.Prelude.{◌≡◌, length};
-ghost use Rattle.entcode.specs.Said.{said};
+ghost use Rattle.stream.specs.Frame.{said_framed};
 ghost use Rattle.stream_saved.specs.Lines.{said_restored};
 ghost use Rattle.gurthapen_answer.specs.Result as answer;
-ghost use Rattle.gurthapen_answer.specs.Record.{lists_applied, lists_restored};
+ghost use Rattle.gurthapen_answer.specs.Record.{lists_framed, lists_restored};
 
-use entcode::Refusal;
 use gurthapen_state::coder::Coder;
 use gurthapen_state::record::store_record;
-use stream::Applied;
+use stream::Framed;
 use stream_saved::Restored;
 
 // What a frame leaves.
-pub fn leave_frame(
-    a: Result<Applied, Refusal>,
-    energies: &mut [f32],
-    next: &mut [u64],
-    state: &mut [i64],
-) -> u32
+pub fn leave_frame(y: Framed, energies: &mut [f32], next: &mut [u64], state: &mut [i64]) -> u32
     requires { (length energies.old ≡ 42) × (length next.old ≡ 1) × (length state.old ≡ 12) }
-    ensures { answer.result result ((energies.new, next.new), state.new) ≡ answer.result_of (lists_applied (said a)) ((energies.old, next.old), state.old) }
+    ensures { answer.result result ((energies.new, next.new), state.new)
+        ≡ answer.result_of (lists_framed (said_framed y)) ((energies.old, next.old), state.old) }
 {
-    match a {
-        Ok(y) => {
+    match y.answer {
+        Ok(()) => {
             let rec = y.rec;
             store_record(energies, next, rec);
             y.next.store(state);

@@ -2,7 +2,7 @@
 use Prim.Native.Nat.{ℕ, suc, ◌-◌, ◌≤◌, ◌<◌}
 use mathlib.Core.Bool.{Bool}
 use mathlib.Core.List.{List, []}
-use mathlib.Core.Path.{◌≡◌, ap, sym, ◌∙◌}
+use mathlib.Core.Path.{◌≡◌, refl, ap, sym, ◌∙◌}
 use native.Mathlib.Omega.{arith}
 use lib.IntN.{ℤ, pos}
 use lib.ListN.{get_or, length}
@@ -123,7 +123,7 @@ module _ {f : AllocCounts} {offsets caps bits : List ℕ} {g : Begun} (h : Start
         sym
         (k.is
         ∙ ap (λ (x : Skipped × σ). skip_ending x)
-        (sym (skip-same f offsets caps bits_held A n r s)
+        (sym (skip-same f offsets caps bits_held A A refl n r s)
         ∙ same.skip-same a bits_held (bits_of a) A n r s (omega (arith, h.frame.start-lt)) agree)
         ∙ ap (λ (m : ℕ). skip_ending (skip a (bits_of a) A (f.end - suc m) r s)) h.begins.low-is
         ∙ ap (λ (q : Round). skip_ending (skip a (bits_of a) A (f.end - suc (skip_start a)) q s)) first-is)
@@ -172,11 +172,11 @@ module _ {f : AllocCounts} {offsets caps bits : List ℕ} {g : Begun} (h : Start
       intensity-answered : ask_intensity a A the_skip.0.last the_skip.1 ≡ (i, q.mid)
       unfolding ask_intensity
       intensity-answered =
-          rw (last-is, next-is) (sym (q.intensity ∙ sym (intensity-same f offsets caps bits_held A (round_of coded 0 reserve []) t)))
+          rw (last-is, next-is) (sym (q.intensity ∙ sym (intensity-same f offsets caps bits_held A A refl (round_of coded 0 reserve []) t)))
 
       -- A answers the question of dual stereo as it was answered
       dual-answered : ask_dual a A i q.mid ≡ (d, w)
-      dual-answered = sym (q.dual ∙ sym (dual-same f offsets caps bits_held A i q.mid))
+      dual-answered = sym (q.dual ∙ sym (dual-same f offsets caps bits_held A A refl i q.mid))
 
       -- so the allocation is the last step of the definition on the code's figures
       alloc-is : alloc a A s ≡ (finish a (bits_of a) the_skip.0 i d, w)

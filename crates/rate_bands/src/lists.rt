@@ -1,6 +1,6 @@
 // The bands' figures as lists, each written over start..end-1 in one loop.
 // The vectors' steps are taken once and lent. Arrays side by side, of an entry for each band: each is `fill` of a definition of its own.
-ghost use Rattle.std.specs.Prelude.{◌≡◌, ◌-◌, ◌<◌, length, replicate};
+ghost use Rattle.std.specs.Prelude.{◌≡◌, ◌-◌, ◌<◌, length};
 ghost use Rattle.laws.specs.Lists.{fill};
 ghost use Rattle.modes.specs.Vectors.{vectors};
 ghost use Rattle.rate_spec.specs.Vectors.{threshold, trim_up, trim_down, lower_bits};
@@ -11,28 +11,32 @@ ghost use Rattle.rate_bands.specs.Tilts.{scale, Holds, Neighbours, Tilts};
 use crate::{AllocCounts, band};
 use modes::edges::width_of;
 
-// Each band's scale and both parts of its trim, of a frame's bands.
+// Each band's scale and both parts of its trim, of a frame's bands. The arrays are lent: a copy of arrays that were just written would cost an
+// allocation a tenth of its time.
 #[derive(Clone, Copy)]
-pub struct BandTilts {
+pub struct BandTilts<'a> {
     pub f: AllocCounts,
-    pub scales: [u32; 21],
-    pub ups: [u32; 21],
-    pub downs: [u32; 21],
+    pub scales: &'a [u32; 21],
+    pub ups: &'a [u32; 21],
+    pub downs: &'a [u32; 21],
     pub ghost frame: { AllocCountsOk f },
-    pub ghost figures: { Tilts (bare f) scales ups downs },
+    pub ghost figures: { Tilts (bare f) scales.now ups.now downs.now },
 }
 
-// Writes the thresholds, and gives the scales and both parts of the trim.
-pub fn tilts(f: AllocCounts, thresholds: &mut [u32; 21]) -> BandTilts
+// Thresholds, scales and both parts of the trim.
+pub fn tilts(
+    f: AllocCounts,
+    thresholds: &mut [u32; 21],
+    scales: &mut [u32; 21],
+    ups: &mut [u32; 21],
+    downs: &mut [u32; 21],
+)
     requires { AllocCountsOk f }
-    ensures { (thresholds.new ≡ fill (threshold (bare f)) f.start (f.end - f.start) thresholds.old) × (result.f ≡ f)
-        × (result.scales ≡ fill (scale (bare f)) f.start (f.end - f.start) (replicate 21 0))
-        × (result.ups ≡ fill (trim_up (bare f)) f.start (f.end - f.start) (replicate 21 0))
-        × (result.downs ≡ fill (trim_down (bare f)) f.start (f.end - f.start) (replicate 21 0)) }
+    ensures { (thresholds.new ≡ fill (threshold (bare f)) f.start (f.end - f.start) thresholds.old)
+        × (scales.new ≡ fill (scale (bare f)) f.start (f.end - f.start) scales.old)
+        × (ups.new ≡ fill (trim_up (bare f)) f.start (f.end - f.start) ups.old)
+        × (downs.new ≡ fill (trim_down (bare f)) f.start (f.end - f.start) downs.old) }
 {
-    let mut scales = [0u32; 21];
-    let mut ups = [0u32; 21];
-    let mut downs = [0u32; 21];
     for j in f.start..f.end {
         let w = width_of(j);
         let s = band::slope_of(f, j, w);
@@ -40,12 +44,6 @@ pub fn tilts(f: AllocCounts, thresholds: &mut [u32; 21]) -> BandTilts
         scales[j] = band::scale_of(f, j, w);
         ups[j] = band::up_of(f, j, s);
         downs[j] = band::down_of(f, j, w, s);
-    }
-    BandTilts {
-        f,
-        scales,
-        ups,
-        downs,
     }
 }
 

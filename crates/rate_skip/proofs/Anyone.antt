@@ -1,4 +1,5 @@
--- Skipping and the stereo questions look at no boost and no cap, so the contracts hold for the question with any lists. Assumes nothing.
+-- Skipping looks at no boost and no cap, and asks for flags only; each stereo question looks at its own answer only. So the contracts hold for
+-- the question with any lists, and whatever the other answers are. Assumes nothing.
 use Prim.Native.Nat.{ℕ, zero, suc}
 use mathlib.Core.List.{List}
 use mathlib.Core.Path.{◌≡◌, refl}
@@ -24,29 +25,29 @@ module _ (f : AllocCounts) (offsets caps : List ℕ) (bits : ℕ → ℕ) where
   unfolding dropped keep paid asks top_bits width_up_to threshold reserve_next floored
   dropped-bare r = refl
 
-module _ (f : AllocCounts) (offsets caps : List ℕ) (bits : ℕ → ℕ) {σ : Type 0} (A : Ask σ) where
-  flag_same : (r : Round) (s : σ) → flag_of (alloc_in f offsets caps) bits A r s ≡ flag_of (bare f) bits A r s
+module _ (f : AllocCounts) (offsets caps : List ℕ) (bits : ℕ → ℕ) {σ : Type 0} (A B : Ask σ) where
+  flag_same : A.skip ≡ B.skip → (r : Round) (s : σ) → flag_of (alloc_in f offsets caps) bits A r s ≡ flag_of (bare f) bits B r s
   unfolding flag_of
-  flag_same r s = rw (asks-bare f offsets caps bits r, top-bare f offsets caps bits r)
+  flag_same e r s = rw (asks-bare f offsets caps bits r, top-bare f offsets caps bits r, e)
 
   -- skipping
-  pub skip-same : (n : ℕ) (r : Round) (s : σ) → skip (alloc_in f offsets caps) bits A n r s ≡ skip (bare f) bits A n r s
+  pub skip-same : A.skip ≡ B.skip → (n : ℕ) (r : Round) (s : σ) → skip (alloc_in f offsets caps) bits A n r s ≡ skip (bare f) bits B n r s
   unfolding skip
-  skip-same zero r s = refl
-  skip-same (suc n) r s =
+  skip-same e zero r s = refl
+  skip-same e (suc n) r s =
       rw (
-        flag_same r s,
+        flag_same e r s,
         asks-bare f offsets caps bits r,
         dropped-bare f offsets caps bits r,
-        skip-same n (dropped (bare f) bits r) (flag_of (bare f) bits A r s).1,
+        skip-same e n (dropped (bare f) bits r) (flag_of (bare f) bits B r s).1,
       )
 
   -- the intensity question
-  pub intensity-same : (r : Round) (s : σ) → ask_intensity (alloc_in f offsets caps) A r s ≡ ask_intensity (bare f) A r s
+  pub intensity-same : A.intensity ≡ B.intensity → (r : Round) (s : σ) → ask_intensity (alloc_in f offsets caps) A r s ≡ ask_intensity (bare f) B r s
   unfolding ask_intensity
-  intensity-same r s = refl
+  intensity-same e r s = rw e
 
   -- the dual stereo question
-  pub dual-same : (intensity : ℕ) (s : σ) → ask_dual (alloc_in f offsets caps) A intensity s ≡ ask_dual (bare f) A intensity s
+  pub dual-same : A.dual ≡ B.dual → (intensity : ℕ) (s : σ) → ask_dual (alloc_in f offsets caps) A intensity s ≡ ask_dual (bare f) B intensity s
   unfolding ask_dual dual_asked dual_reserve stereo_fits skip_reserve intensity_reserve
-  dual-same intensity s = refl
+  dual-same e intensity s = rw e

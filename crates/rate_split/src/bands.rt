@@ -102,7 +102,9 @@ fn split_skipped(f: AllocCounts, coded: usize, kept: &[u32; 21], lists: &mut Lis
     }
 }
 
-// All bands start..end-1, of which those below `coded` are coded. It gives what the last coded band hands on.
+// All bands start..end-1, of which those below `coded` are coded. It gives what the last coded band hands on. Put into its callers: as a call it would
+// look up the three lists for each band anew.
+#[inline(always)]
 pub fn split_bands(
     f: AllocCounts,
     caps: &[u32; 21],

@@ -8,7 +8,7 @@ ghost use Rattle.rate_split.specs.Splits.{as_band, share_of, with_share, degrees
 
 use crate::split::split_of;
 use crate::{BandSplit, Share};
-use laws::pow2;
+use laws::{min32, pow2, saturating_sub};
 use modes::edges::edge_of;
 use modes::log_widths::log_width_of;
 use rate_bands::AllocCounts;
@@ -34,7 +34,7 @@ fn spread_of(g: Share, b: u32, lo: u32, hi: u32) -> u32
 {
     let w = hi - lo;
     let m = g.each * w;
-    b + m + g.rest.saturating_sub(lo - g.first).min(w)
+    b + m + min32(saturating_sub(g.rest, lo - g.first), w)
 }
 
 // The degrees of freedom of band j, which has n coefficients.

@@ -6,6 +6,7 @@ ghost use Rattle.rate_spec.specs.Split.{with_offset, extra, spill, fine_of, prio
 ghost use Rattle.rate_split.specs.Splits.{as_band, Sized};
 
 use crate::BandSplit;
+use laws::{min32, saturating_sub};
 
 // b bits with the offset, and 21 · den above it, before the correction for few bits.
 fn base_of(b: u32, n: u32, den: u32, lg: u32) -> u32
@@ -42,7 +43,7 @@ fn wanted_of(x: u32, den: u32) -> u32
     requires { (1 ≤ den) × (den ≤ 353) }
     ensures { (result ≡ (x - 17 * den) / den / 8) × (result ≤ 536870911) }
 {
-    x.saturating_sub(17 * den) / den / 8
+    saturating_sub(x, 17 * den) / den / 8
 }
 
 // At most what b bits pay for, and at most 8.
@@ -50,8 +51,11 @@ fn fine_of(c: u32, b: u32, e: u32) -> u32
     requires { (1 ≤ c) × (c ≤ 2) × (e ≤ 536870911) }
     ensures { (result ≡ min 8 (cond (ltb (b / 8) (c * e)) (b / (8 * c)) e)) × (result ≤ 8) }
 {
-    let paid = if b / 8 < c * e { b / (8 * c) } else { e };
-    paid.min(8)
+    if b / 8 < c * e {
+        min32(8, b / (8 * c))
+    } else {
+        min32(8, e)
+    }
 }
 
 // 1 where e fine bits are x, bits with the offset, rounded up.
@@ -67,7 +71,7 @@ fn extra_of(c: u32, fine: u32, excess: u32) -> u32
     requires { (1 ≤ c) × (c ≤ 2) × (fine ≤ 8) }
     ensures { (result ≡ extra c fine excess) × (result ≤ 8) × (8 * c * result ≤ excess) }
 {
-    (excess / (8 * c)).min(8 - fine)
+    min32(excess / (8 * c), 8 - fine)
 }
 
 // The excess over the cap spent on further fine bits, and the rest handed on.
@@ -119,8 +123,16 @@ pub fn split_of(c: u32, n: u32, den: u32, lg: u32, cap: u32, x: u32, balance: u3
     ensures { (as_band result ≡ split_of c n den lg cap x balance) × (result.prio ≤ 1) }
 {
     if 1 < n {
-        wide_of(c, n, den, lg, x.min(cap), x.saturating_sub(cap), balance)
+        wide_of(
+            c,
+            n,
+            den,
+            lg,
+            min32(x, cap),
+            saturating_sub(x, cap),
+            balance,
+        )
     } else {
-        spill_of(c, x.min(8 * c), 0, 1, x.saturating_sub(8 * c), balance)
+        spill_of(c, min32(x, 8 * c), 0, 1, saturating_sub(x, 8 * c), balance)
     }
 }

@@ -19,6 +19,19 @@ module _ (over : ℕ → Bool) (n lo₀ hi₀ : ℕ) where
     pub found-is : (halve over (n - trials) lo hi).0 ≡ (halve over n lo₀ hi₀).0
     pub count-is : trials + (halve over (n - trials) lo hi).1 ≡ (halve over n lo₀ hi₀).1
 
+  -- before the first trial
+  pub search_start : lo₀ < hi₀ → hi₀ ≤ lo₀ + 2 ^ n → Search lo₀ hi₀ 0
+  search_start h g =
+      let e : n - 0 ≡ n = omega arith in
+      record {
+        apart = h;
+        hi-le = omega arith;
+        trials-le = omega arith;
+        near = rw e g;
+        found-is = rw e;
+        count-is = rw e (omega arith);
+      }
+
   module _ (lo hi trials : ℕ) (s : Search lo hi trials) where
     some_left : suc lo < hi → 0 < n - trials
     some_left h = pow_some (n - trials) (omega (arith, s.near))

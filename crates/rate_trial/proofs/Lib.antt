@@ -4,3 +4,4 @@ pub mod Parts
 pub mod Halving
 pub mod LastPass
 pub mod Settling
+pub mod Calls

@@ -1,6 +1,6 @@
 // Both searches, by halving: a figure that the budget, `shared`, pays for, and whose next it does not, or which is the last that is tried. It is
 // the highest that the budget pays for where no cap is below the floor (rate_spec, Highest).
-ghost use Rattle.std.specs.Prelude.{◌≡◌, ℕ, Bool, ◌≤◌, ◌<◌, ◌^◌};
+ghost use Rattle.std.specs.Prelude.{◌≡◌, ℕ, Bool, ◌≤◌, ◌<◌, ◌^◌, length};
 ghost use Rattle.laws.specs.Lists.{AllLe};
 ghost use Rattle.modes.specs.Vectors.{vectors};
 ghost use Rattle.rate_spec.specs.Reserves.{budget};
@@ -8,6 +8,7 @@ ghost use Rattle.rate_spec.specs.Trials.{halve, over, vector, sixtyfourths};
 ghost use Rattle.rate_spec.specs.Vectors.{lower_bits};
 ghost use Rattle.rate_bands.specs.Inputs.{bare, alloc_in, AllocCountsOk, AllocListsOk};
 ghost use Rattle.rate_bands.specs.Tilts.{Neighbours, Thresholds};
+ghost use Rattle.rate_trial.specs.Calls.{Left};
 ghost use Rattle.rate_trial.specs.Points.{PointOk};
 
 use crate::Choice;
@@ -16,10 +17,11 @@ use rate_bands::AllocCounts;
 use rate_bands::lists::{BandTilts, lows_of};
 
 // Halves 0..top-1, with 0 taken to be within and `top` to be over, until neighbours are left: the lower one, and how many figures were tried.
-fn halve<F: Fn(usize) -> bool>(top: usize, over: F) -> Choice
+fn halve<F: FnMut(usize) -> bool>(top: usize, mut over: F) -> Choice
     requires bounds { (0 < top) × (top ≤ 64) }
-    requires tries { (x : ℕ) → x < top → F.pre over x }
-    ensures halved { (said : ℕ → Bool) (n : ℕ) → top ≤ 2 ^ n → ((x : ℕ) (r : Bool) → x < top → F.post over x r → r ≡ said x)
+    requires tries { (f : F) (x : ℕ) → Left F.step top over f → x < top → F.pre f x }
+    ensures halved { (said : ℕ → Bool) (n : ℕ) → top ≤ 2 ^ n
+        → ((f g : F) (x : ℕ) (r : Bool) → Left F.step top over f → x < top → F.step f x r g → r ≡ said x)
         → (result.v, result.trials) ≡ halve said n 0 top }
     ensures within { result.v < top }
 {
@@ -47,18 +49,17 @@ fn vector_over(
     steps: &[u8],
     thresholds: &[u32; 21],
     v: usize,
+    lows: &mut [u32; 21],
 ) -> bool
     requires { AllocListsOk offsets.now caps.now × (shared ≡ budget (bare t.now.f)) × (steps.now ≡ vectors)
-        × Thresholds (bare t.now.f) thresholds.now × (v < 11) }
-    ensures { let a = alloc_in t.now.f offsets.now caps.now in result ≡ over a (lower_bits a v) }
+        × Thresholds (bare t.now.f) thresholds.now × (v < 11) × (length lows.old ≡ 21) }
+    ensures { let a = alloc_in t.now.f offsets.now caps.now in (result ≡ over a (lower_bits a v)) × (length lows.new ≡ 21) }
 {
-    // what stands in the list is overwritten: a copy, since zeros would be written by a call for each trial
-    let mut lows = t.scales;
-    lows_of(t, offsets, caps, steps, v, &mut lows);
+    lows_of(t, offsets, caps, steps, v, lows);
     let p = Point {
         f: t.f,
-        lows: &lows,
-        gaps: &lows,
+        lows,
+        gaps: lows,
         q: 0,
     };
     over_of(&p, caps, shared, thresholds)
@@ -78,7 +79,12 @@ pub fn vector_of(
     ensures { let a = alloc_in t.now.f offsets.now caps.now in
         (result.v ≡ (vector a).0) × (result.trials ≡ (vector a).1) × (result.v < 11) }
 {
-    let trial = |v| vector_over(t, offsets, caps, shared, steps, thresholds, v);
+    // each trial overwrites one list: a list of its own would be copied or cleared for each
+    let mut lows = [0u32; 21];
+    let trial = |v|
+        requires { AllocListsOk offsets.now caps.now × (shared ≡ budget (bare t.now.f)) × (steps.now ≡ vectors)
+            × Thresholds (bare t.now.f) thresholds.now × (v < 11) × (length lows ≡ 21) }
+    { vector_over(t, offsets, caps, shared, steps, thresholds, v, &mut lows) };
     halve(11, trial)
 }
 

@@ -14,7 +14,7 @@ use crate::trial::Point;
 use crate::{Choice, Settled};
 use modes::vectors::table;
 use rate_bands::AllocCounts;
-use rate_bands::lists::{neighbours, tilts};
+use rate_bands::lists::{BandTilts, neighbours, tilts};
 
 // Chooses the vector, and writes the thresholds, the vector's bits and what the next one has above them.
 pub fn choose(
@@ -34,7 +34,16 @@ pub fn choose(
         × Neighbours a result.v lows.new gaps.new }
 {
     let steps = table();
-    let t = tilts(f, thresholds);
+    let mut scales = [0u32; 21];
+    let mut ups = [0u32; 21];
+    let mut downs = [0u32; 21];
+    tilts(f, thresholds, &mut scales, &mut ups, &mut downs);
+    let t = BandTilts {
+        f,
+        scales: &scales,
+        ups: &ups,
+        downs: &downs,
+    };
     let found = vector_of(&t, offsets, caps, shared, &steps, thresholds);
     let v = found.v;
     neighbours(&t, offsets, caps, &steps, v, lows, gaps);

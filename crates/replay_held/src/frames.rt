@@ -1,12 +1,11 @@
 // Frames on a record.
 use crate::energies::{ended, say_next};
 use crate::reader;
-use entcode::Refusal;
 use replay_io::floats::floats_of;
 use replay_io::list::{at, part, word};
 use replay_io::say::numbers;
 use std::io::Stdout;
-use stream::{Applied, Record};
+use stream::{Framed, Record};
 use stream_lent::AppliedStep;
 
 // The record of a request: its next number, and the energies that are listed.
@@ -26,18 +25,10 @@ fn recorded(stdout: Stdout, r: Record) {
     ended(stdout, &x);
 }
 
-// What the frame by value answered, of the record and the reader of a request; a refusal leaves both.
-fn framed(stdout: Stdout, l: &[i32], a: Result<Applied, Refusal>) {
-    match a {
-        Ok(y) => {
-            say_next(stdout, b'F', y.next, Ok(y.next));
-            recorded(stdout, y.rec);
-        }
-        Err(why) => {
-            say_next(stdout, b'F', reader(l), Err(why));
-            recorded(stdout, record(l));
-        }
-    }
+// What the frame by value gave.
+fn framed(stdout: Stdout, y: Framed) {
+    say_next(stdout, b'F', y.next, y.answer.map(|_| y.next));
+    recorded(stdout, y.rec);
 }
 
 // What the frame on a lent record answered, and the record then.
@@ -47,7 +38,7 @@ fn applied(stdout: Stdout, l: &[i32], y: AppliedStep) {
 }
 
 // By value.
-fn apply(l: &[i32], s: &[u8]) -> Result<Applied, Refusal> {
+fn apply(l: &[i32], s: &[u8]) -> Framed {
     record(l).frame(
         reader(l),
         s,
@@ -77,6 +68,6 @@ fn apply_lent(l: &[i32], s: &[u8]) -> AppliedStep {
 
 // F: a frame on a record.
 pub fn ask(stdout: Stdout, l: &[i32], s: &[u8]) {
-    framed(stdout, l, apply(l, s));
+    framed(stdout, apply(l, s));
     applied(stdout, l, apply_lent(l, s));
 }

@@ -5,15 +5,15 @@ use std::io::Stdin;
 // Where the input stands: how long the line in its buffer is, whether its line feed came (no Option: a line without one goes on in the next
 // block), the next place in the block that was read last, and how many bytes that has.
 #[derive(Clone, Copy)]
-struct Line {
-    length: usize,
-    whole: bool,
-    at: usize,
-    count: usize,
+pub struct Line {
+    pub length: usize,
+    pub whole: bool,
+    pub at: usize,
+    pub count: usize,
 }
 
 // Before the first line.
-fn begin() -> Line {
+pub fn begin() -> Line {
     Line {
         length: 0,
         whole: false,
@@ -56,7 +56,7 @@ fn take(block: &[u8], from: usize, count: usize, line: &mut [u8], n: usize) -> L
 }
 
 // The next line. Where it is not whole, the input is at its end. Nothing says that the input ends, so the blocks are counted.
-fn next(stdin: Stdin, block: &mut [u8], line: &mut [u8], from: Line) -> Line {
+pub fn next(stdin: Stdin, block: &mut [u8], line: &mut [u8], from: Line) -> Line {
     let mut t = take(block, from.at, from.count, line, 0);
     for _ in 0..65536 {
         if t.whole {

@@ -91,15 +91,15 @@ pub fn refusal(stdout: Stdout, why: Refusal) {
     numbers(stdout, b"X", &[u32::from(why)]);
 }
 
-// The line of a call that was refused.
-pub fn refused(stdout: Stdout, why: Refusal) {
-    refusal(stdout, why);
+// The line of a call that was refused, by a refusal or by its number.
+pub fn refused<N: Into<u32>>(stdout: Stdout, why: N) {
+    numbers(stdout, b"X", &[why.into()]);
     text(stdout, b"\n");
 }
 
 // The line of a letter that names no call.
 pub fn unknown(stdout: Stdout) {
-    text(stdout, b"X 0\n");
+    refused(stdout, 0u32);
 }
 
 // The line of a request that has no meaning.

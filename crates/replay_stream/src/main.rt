@@ -10,9 +10,10 @@
 
 ghost use Rattle.std.specs.Prelude.{◌≤◌, length};
 
+use entcode::Refusal;
 use entdec::Reader;
 use std::io::{Print, Read, Stdin, Stdout};
-use stream::{Applied, Record};
+use stream::{Framed, Record};
 use text::fields::field;
 use text::read::{number_at, signed_at};
 use text::write::decimal;
@@ -80,6 +81,11 @@ fn say_code(stdout: Stdout, letter: &[u8], code: u32) {
     say_text(stdout, b"\n");
 }
 
+// The code of an answer, 0 or a refusal's number.
+fn code_of(answer: Result<(), Refusal>) -> u32 {
+    answer.err().map_or(0, u32::from)
+}
+
 // The record that a line says, or else the one that was there.
 fn restore(s: &[u8], rec: Record) -> Record {
     let r = stream_saved::restore(s);
@@ -91,11 +97,7 @@ fn restore(s: &[u8], rec: Record) -> Record {
 
 // A saved line is restored.
 fn restored(stdout: Stdout, s: &[u8], rec: Record) -> Record {
-    let code = match stream_saved::restore(s).answer {
-        Ok(()) => 0,
-        Err(why) => u32::from(why),
-    };
-    say_code(stdout, b"R", code);
+    say_code(stdout, b"R", code_of(stream_saved::restore(s).answer));
     restore(s, rec)
 }
 
@@ -123,9 +125,9 @@ fn save(stdout: Stdout, rec: Record) -> Record {
     put(stdout, rec, &mut line)
 }
 
-// Frame `number`, with the other numbers of a request: its code, and the record and the reader after it, which a refusal leaves.
-fn apply(s: &[u8], d: Reader, packet: &[u8], number: u64, rec: Record) -> (u32, Applied) {
-    let answer = rec.frame(
+// Frame `number`, with the other numbers of a request.
+fn apply(s: &[u8], d: Reader, packet: &[u8], number: u64, rec: Record) -> Framed {
+    rec.frame(
         d,
         packet,
         number,
@@ -134,25 +136,28 @@ fn apply(s: &[u8], d: Reader, packet: &[u8], number: u64, rec: Record) -> (u32, 
         whole(s, 4),
         whole(s, 5),
         whole(s, 6),
-    );
-    match answer {
-        Ok(y) => (0, y),
-        Err(why) => (u32::from(why), Applied { rec, next: d }),
-    }
+    )
 }
 
 // A skip, the frame, and its repeat.
 fn thrice(stdout: Stdout, s: &[u8], packet: &[u8], rec: Record) -> Record {
     let number = u64::from(count(s, 1));
     let d = reader(s);
-    let (skip, mid) = apply(s, d, packet, number + 1, rec);
-    let (own, then) = apply(s, d, packet, number, mid.rec);
-    let (again, last) = apply(s, d, packet, number, then.rec);
+    let skip = apply(s, d, packet, number + 1, rec);
+    let own = apply(s, d, packet, number, skip.rec);
+    let again = apply(s, d, packet, number, own.rec);
     say_text(stdout, b"F");
-    say_all(stdout, &[skip, own, again]);
-    say_reader(stdout, then.next);
+    say_all(
+        stdout,
+        &[
+            code_of(skip.answer),
+            code_of(own.answer),
+            code_of(again.answer),
+        ],
+    );
+    say_reader(stdout, own.next);
     say_text(stdout, b"\n");
-    save(stdout, last.rec)
+    save(stdout, again.rec)
 }
 
 // The packet of a request goes to the lent bytes.

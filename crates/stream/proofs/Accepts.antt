@@ -1,16 +1,13 @@
 -- What an accepted frame tells of its numbers, and an answer by its number. Assumes nothing.
 use Prim.Native.Nat.{ℕ, zero, suc, ◌≤◌}
-use mathlib.Core.Path.{◌≡◌, refl, ap}
+use mathlib.Core.Path.{◌≡◌, refl}
 use mathlib.Core.Bool.{true, and-eq-true_iff}
 use native.Mathlib.Omega.{arith}
 use lib.IntN.{ℤ}
 use borrow.Author.Tests.{leb-true}
 use Rattle.quant_bands.specs.Question.{coarse_ok}
 use Rattle.stream.specs.declared.Record.{Record}
-use Rattle.stream.specs.declared.Applied.{Applied}
-use Rattle.entcode.specs.Said.{answer}
-use Rattle.entcode.specs.Said.Said.{done, refused}
-use Rattle.stream.specs.Frame.{Call, numbers_ok, applied, Framed, frame_answer, frame_said, framed_by, frame_refused}
+use Rattle.stream.specs.Frame.{Call, numbers_ok, applied, Framed, frame_answer, frame_refused}
 
 -- ---- numbers
 
@@ -31,19 +28,13 @@ known next number c lm start end intra e =
 -- ---- answers
 
 -- number 0: the answer is the frame applied
-pub answer-applied : (n : ℕ) (r : Record) (q : Call) {y : Applied} → n ≡ 0 → framed_by y ≡ applied r q.coder q.packet q.c q.lm q.start q.end q.intra
-    → done y ≡ frame_said (frame_answer n r q)
-unfolding frame_answer answer
-answer-applied zero r q h e = ap (λ (z : Framed). frame_said z) e
+pub answer-applied : (n : ℕ) (r : Record) (q : Call) {y : Framed} → n ≡ 0 → y ≡ applied r q.coder q.packet q.c q.lm q.start q.end q.intra
+    → y ≡ frame_answer n r q
+unfolding frame_answer
+answer-applied zero r q h e = e
 answer-applied (suc n) r q h e = absurd (omega arith)
 
--- any other number: the call says that refusal
-pub says-refused : (n : ℕ) (r : Record) (q : Call) → (n ≡ 0 → ⊥) → refused n ≡ frame_said (frame_answer n r q)
-unfolding frame_answer answer
-says-refused zero r q h = absurd (h refl)
-says-refused (suc n) r q h = refl
-
--- and record and reader are as they were
+-- any other number: that refusal, and record and reader are as they were
 pub answer-refused : (n : ℕ) (r : Record) (q : Call) → (n ≡ 0 → ⊥) → frame_refused n r q.coder ≡ frame_answer n r q
 unfolding frame_answer
 answer-refused zero r q h = absurd (h refl)

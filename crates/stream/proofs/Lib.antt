@@ -3,3 +3,4 @@ pub mod Once
 pub mod Again
 pub mod Mono
 pub mod Uses
+pub mod Said

@@ -5,13 +5,13 @@ use Rattle.std.specs.Float.Ieee.Scale.{finite}
 use Rattle.laws.specs.Lists.{every}
 use Rattle.laws.specs.Signs.{clip}
 use Rattle.entcode.specs.Refusal.{refusal}
-use Rattle.entcode.specs.Said.{Said, answer}
+use Rattle.entcode.specs.Said.{verdict}
 use Rattle.entdec.specs.declared.Reader.{Reader}
 use Rattle.entdec.specs.Rule.{read_refusal}
 use Rattle.quant_bands.specs.Coarse.{coarse}
 use Rattle.quant_bands.specs.Question.{coarse_ok, is_intra}
 use Rattle.stream.specs.declared.Record.{Record}
-use Rattle.stream.specs.declared.Applied.{Applied}
+use Rattle.stream.specs.declared.Framed.{Framed as Answer}
 
 -- the record before the first frame: 42 energies of zero, and number 0 comes next
 unfoldable pub fresh : Record
@@ -67,9 +67,9 @@ pub record Framed : Type 0 where
   pub rec : Record
   pub next : Reader
 
--- code 0, with what the call that applied it answers
-abbrev pub framed_by : Applied → Framed
-framed_by y = record { code = 0; rec = y.rec; next = y.next }
+-- of an answer
+abbrev pub said_framed : Answer → Framed
+said_framed y = record { code = verdict y.answer; rec = y.rec; next = y.next }
 
 -- a frame that is applied, of numbers as counts: one coarse decode of the record's energies, and the next number goes up by one
 abbrev pub applied_counts : Record → Reader → List ℕ → ℕ → ℕ → Bool → ℕ → ℕ → Framed
@@ -93,7 +93,3 @@ frame_answer (suc n) r q = frame_refused (suc n) r q.coder
 -- a checked frame
 abbrev pub framed : Record → Call → Framed
 framed r q = frame_answer (refusal_frame r q) r q
-
--- what the call says of it: the record and the reader after the frame, or the number of the refusal
-abbrev pub frame_said : Framed → Said Applied
-frame_said y = answer y.code (record { rec = y.rec; next = y.next })

@@ -3,8 +3,8 @@
 #![tactic(auto)]
 
 ghost use Rattle.std.specs.Prelude.{◌≡◌};
-ghost use Rattle.entcode.specs.Said.{said, verdict};
-ghost use Rattle.stream.specs.Frame.{fresh, order_of, ordered, call, framed, frame_said};
+ghost use Rattle.entcode.specs.Said.{verdict};
+ghost use Rattle.stream.specs.Frame.{fresh, order_of, ordered, call, framed, said_framed};
 
 use entcode::Refusal;
 use entdec::Reader;
@@ -21,9 +21,11 @@ pub struct Record {
     pub next: u64,
 }
 
-// A frame that was applied: the record and the reader after it.
+// What a frame answers: the record and the reader after it, or the refusal, and both as they were. No Result: theorems promise of a refused frame too
+// what record and reader are (specs/History.antt, RefusedChangesNothing).
 #[derive(Clone, Copy)]
-pub struct Applied {
+pub struct Framed {
+    pub answer: Result<(), Refusal>,
     pub rec: Record,
     pub next: Reader,
 }
@@ -64,9 +66,9 @@ impl Record {
     }
 
     // Frame `number`, whose coarse energies the reader d stands before in the packet s. Where it is the record's next, its coarse energies are decoded
-    // once over those of the record, and the number after it comes next; a refused frame leaves both as the caller has them. Refused as 2 (bytes),
-    // 1 (the state, the numbers, the record's next number), 3 (an energy of the record that is not finite), 10 (a number below the next), 11 (one above
-    // it) and 4.
+    // once over those of the record, and the number after it comes next. A refused frame hands record and reader back as they were. Refused as 2
+    // (bytes), 1 (the state, the numbers, the record's next number), 3 (an energy of the record that is not finite), 10 (a number below the next), 11
+    // (one above it) and 4.
     pub fn frame(
         self,
         d: Reader,
@@ -77,11 +79,16 @@ impl Record {
         start: i32,
         end: i32,
         intra: i32,
-    ) -> Result<Applied, Refusal>
-        ensures { said result ≡ frame_said (framed self (call d s.now number c lm start end intra)) }
+    ) -> Framed
+        ensures { said_framed result ≡ framed self (call d s.now number c lm start end intra) }
     {
-        gate::refusal(self, d, s.len(), number, c, lm, start, end, intra)?;
-        let f = Frame::of(c, lm, start, end, intra);
-        Ok(work::apply(self, d, s, f))
+        match gate::refusal(self, d, s.len(), number, c, lm, start, end, intra) {
+            Ok(_) => work::apply(self, d, s, Frame::of(c, lm, start, end, intra)),
+            Err(why) => Framed {
+                answer: Err(why),
+                rec: self,
+                next: d,
+            },
+        }
     }
 }

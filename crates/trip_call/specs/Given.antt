@@ -48,7 +48,7 @@ kind_read n = cond (leb n 4) (Ok (kind_of n)) (Err Number)
 abbrev pub given_at : List ℕ → ℕ → Given
 given_at l i =
     record {
-      kind = kind_of (get_or l (5 * i) 0);
+      kind = get_or l (5 * i) 0;
       count = get_or l (5 * i + 1) 0;
       first = get_or l (5 * i + 2) 0;
       second = get_or l (5 * i + 3) 0;
@@ -66,7 +66,7 @@ symbol_by kind.Laplace g tables = symbol (laplace g.first g.second) (value_at g.
 
 -- a symbol, by its kind
 unfoldable pub symbol_of : Given → List ℕ → Symbol
-symbol_of g tables = symbol_by g.kind g tables
+symbol_of g tables = symbol_by (kind_of g.kind) g tables
 
 -- n symbols, from symbol i on
 unfoldable pub symbols_from : List ℕ → List ℕ → ℕ → ℕ → List Symbol

@@ -2,7 +2,7 @@
 ghost use Rattle.std.specs.Prelude.{◌≡◌, ◌/◌, ◌<◌, length, take, drop};
 ghost use Rattle.entcode.specs.Said.{said, verdict};
 ghost use Rattle.laplace.specs.Model.{code_of, value_at};
-ghost use Rattle.trip_call.specs.Given.{given_at, given_ok, givens_ok, kind_read, refusal_given};
+ghost use Rattle.trip_call.specs.Given.{given_at, given_ok, givens_ok, kind_of, kind_read, refusal_given};
 ghost use Rattle.trip_call.specs.Steps.{lap_counted};
 
 use entcode::{Coded, Refusal};
@@ -34,10 +34,17 @@ impl TryFrom<u32> for Kind {
     }
 }
 
-// A symbol: its kind, the count of its value, and up to three numbers that the kind has.
+// The kind of a number. One that is no kind is refused before any symbol is coded; here it counts as Laplace, as `kind_of` says.
+pub fn kind_of(n: u32) -> Kind
+    ensures { result ≡ kind_of n }
+{
+    Kind::try_from(n).unwrap_or(Kind::Laplace)
+}
+
+// A symbol: the number of its kind, the count of its value, and up to three numbers that the kind has.
 #[derive(Clone, Copy)]
 pub struct Given {
-    pub kind: Kind,
+    pub kind: u32,
     pub count: u32,
     pub first: u32,
     pub second: u32,
@@ -47,14 +54,14 @@ pub struct Given {
 // The count of a symbol's value, and the reader after it, or the writer.
 pub type Counted<C> = Coded<u32, C>;
 
-// Symbol i. A number that is no kind is refused before any symbol is coded; here it counts as Laplace, as `kind_of` says.
+// Symbol i.
 pub fn given_at(symbols: &[u32], i: usize) -> Given
     requires { i < length symbols.now / 5 }
     ensures { result ≡ given_at symbols.now i }
 {
     let k = 5 * i;
     Given {
-        kind: Kind::try_from(symbols[k]).unwrap_or(Kind::Laplace),
+        kind: symbols[k],
         count: symbols[k + 1],
         first: symbols[k + 2],
         second: symbols[k + 3],

@@ -14,7 +14,7 @@ use entdec::Reader;
 pub fn read_one(d: Reader, s: &[u8], tables: &[u8], g: Given) -> Result<Counted<Reader>, Refusal>
     ensures { read_step_of (said result) ≡ read_symbol (symbol_of g tables.now) s.now d }
 {
-    match g.kind {
+    match given::kind_of(g.kind) {
         Kind::Bit => d.bit_logp(s, g.first),
         Kind::Table => d.icdf(s, given::entries(tables, g.second, g.third), g.first),
         Kind::Uniform => d.uint(s, g.first),

@@ -28,7 +28,7 @@ pub fn write_one(
 ) -> Result<Counted<Writer>, Refusal>
     ensures { write_step_of (said result) buf.new ≡ write_symbol (symbol_of g tables.now) (wr w buf.old) }
 {
-    match g.kind {
+    match given::kind_of(g.kind) {
         Kind::Bit => plain(w.bit_logp(buf, g.count, g.first), g.count),
         Kind::Table => {
             let t = given::entries(tables, g.second, g.third);

@@ -4,4 +4,4 @@ use Rattle.entdec.proofs.Reader.refusal.Goals as goal
 
 pub returns : goal.returns
 unfolding read_refusal
-returns c = rw (c.refusal_of.ensures, c.sized.ensures, c.sound.ensures, c.tell_ok-fits.ensures)
+returns g c = rw (c.refusal_of.ensures, c.sized.ensures, c.sound.ensures, c.tell_ok-fits.ensures)

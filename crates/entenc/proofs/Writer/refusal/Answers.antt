@@ -5,4 +5,4 @@ use Rattle.entenc.proofs.Writer.refusal.Goals as goal
 
 pub returns : goal.returns
 unfolding write_refusal
-returns c = c.refusal_of.ensures ∙ rw (c.sized-sized.ensures, c.sound-sound.ensures, c.tell_ok-fits.ensures)
+returns g c = c.refusal_of.ensures ∙ rw (c.sized-sized.ensures, c.sound-sound.ensures, c.tell_ok-fits.ensures)

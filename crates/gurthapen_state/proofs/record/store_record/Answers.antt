@@ -6,4 +6,4 @@ use Rattle.gurthapen_state.proofs.record.store_record.Goals as goal
 
 pub returns : goal.returns
 returns c =
-    rw (c.copy_from_slice.ensures.after, all_set (c.args.rec.next ∷ []) c.args.next.now (sym c.requires.1))
+    rw (c.copy.ensures, all_set (c.args.rec.next ∷ []) c.args.next.now (sym c.requires.1))

@@ -9,7 +9,7 @@ pub returns : goal.returns
 unfolding extra
 returns c =
     let a = c.args in
-    let e = c.min.ensures in (
+    let e = c.min32.ensures in (
       e,
       omega (arith, e, min-le_right (a.excess / (8 * a.c)) (8 - a.fine)),
       rw e (le_trans (mul-le-mul_left (8 * a.c) (min-le_left (a.excess / (8 * a.c)) (8 - a.fine))) (mul-div-le a.excess (8 * a.c))),

@@ -9,5 +9,7 @@ invariant_of-p c =
 
 pub returns : goal.returns
 returns c =
-    let t = c.args.t.now in
-    vector_says t.f c.args.offsets.now c.args.caps.now t.frame c.requires.0 c.args.v _ c.lows_of.ensures.0 c.over_of.ensures
+    let t = c.args.t.now in (
+      vector_says t.f c.args.offsets.now c.args.caps.now t.frame c.requires.0 c.args.v _ c.lows_of.ensures.0 c.over_of.ensures,
+      c.lows_of.ensures.1,
+    )
