@@ -6,8 +6,8 @@ use Rattle.entcode.specs.declared.reasons.Refusal.{Refusal}
 use Rattle.std.specs.Prelude.{Result, ◌≡◌}
 use Rattle.stream.specs.declared.Record.{Record}
 use Rattle.stream_saved.proofs.Said.{said_restored_same as stream_saved_said_restored_same}
+use Rattle.stream_saved.specs.Answer.{Restored}
 use Rattle.stream_saved.specs.Lines.{After, after, restoring, said_restored, saving}
-use Rattle.stream_saved.specs.declared.Restored.{Restored}
 use mathlib.Core.List.{List}
 use mathlib.Core.Path.{ap}
 

@@ -93,8 +93,7 @@ impl Writer {
         self.narrow(buf, add, rng)
     }
 
-    // One bit, whose 1 has the upper one of 2^logp parts of the range. Put into its callers: as a call, with the state there and back through memory, it makes
-    // the exported call a third slower.
+    // One bit, whose 1 has the upper one of 2^logp parts of the range. Put into its callers: as a call the state would go there and back through memory.
     #[inline(always)]
     pub fn put_bit(self, buf: &mut [u8], value: u32, logp: u32) -> Writer
         requires { Ready 1 (wr self buf.old) × (1 ≤ logp) × (logp ≤ 15) }

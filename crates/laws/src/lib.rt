@@ -6,8 +6,8 @@ ghost use Rattle.std.specs.Float.Ieee.Scale.{finite};
 ghost use Rattle.laws.specs.Lists.{every};
 ghost use Rattle.laws.specs.Signs.{clip, in_range, with_sign};
 
-// The next two are std's of the same names, with a jump in place of a choice: where a band of an allocation is split, one side is nearly always the one,
-// and an allocation that is read takes a twentieth less time by them. Elsewhere std's are called.
+// The next two are `saturating_sub` and `min` of std, each written as an `if`, for rate_split; docs/DESIGN-PASS.md, "Speed", has the times. Elsewhere std's are
+// called.
 
 // a - b, and 0 where b is the larger.
 pub fn saturating_sub(a: u32, b: u32) -> u32

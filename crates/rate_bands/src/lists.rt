@@ -11,8 +11,7 @@ ghost use Rattle.rate_bands.specs.Tilts.{scale, Holds, Neighbours, Tilts};
 use crate::{AllocCounts, band};
 use modes::edges::width_of;
 
-// Each band's scale and both parts of its trim, of a frame's bands. The arrays are lent: a copy of arrays that were just written would cost an
-// allocation a tenth of its time.
+// Each band's scale and both parts of its trim, of a frame's bands. The arrays are lent, as those of `Point` of rate_trial are.
 #[derive(Clone, Copy)]
 pub struct BandTilts<'a> {
     pub f: AllocCounts,

@@ -4,7 +4,7 @@ use mathlib.Core.Path.{◌≡◌, ap, ap₂}
 use Rattle.entcode.specs.declared.reasons.Refusal.{Refusal}
 use Rattle.entcode.proofs.Said.{verdict_same}
 use Rattle.stream.specs.declared.Record.{Record}
-use Rattle.stream_saved.specs.declared.Restored.{Restored as Answer}
+use Rattle.stream_saved.specs.Answer.{Restored as Answer}
 use Rattle.stream_saved.specs.Lines.{Restored, said_restored}
 
 -- by the number of the refusal, and the record

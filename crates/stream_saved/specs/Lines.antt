@@ -11,7 +11,8 @@ use Rattle.text.specs.Numbers.{number_of}
 use Rattle.text.specs.Written.{decimal_of}
 use Rattle.stream.specs.declared.Record.{Record}
 use Rattle.stream.specs.Frame.{fresh}
-use Rattle.stream_saved.specs.declared.Restored.{Restored as Answer}
+use Rattle.stream_saved.specs.declared.WithRecord.{WithRecord}
+use Rattle.stream_saved.specs.Answer.{Restored as Answer}
 use Rattle.stream_saved.specs.declared.Energy.{Energy}
 use Rattle.stream_saved.specs.Fields.{energy_text, energy_of, letter_of, not_wrong, not_wild, float_of}
 
@@ -89,9 +90,13 @@ pub record Restored : Type 0 where
   pub code : ℕ
   pub rec : Record
 
+-- of a verdict with a record, by the verdict's number
+abbrev pub said_with : {V : Type 0} → (V → ℕ) → WithRecord V → Restored
+said_with number y = record { code = number y.answer; rec = y.rec }
+
 -- of an answer
 abbrev pub said_restored : Answer → Restored
-said_restored y = record { code = verdict y.answer; rec = y.rec }
+said_restored y = said_with verdict y
 
 -- a refusal
 abbrev pub refused_as : ℕ → Restored

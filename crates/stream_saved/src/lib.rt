@@ -30,13 +30,16 @@ pub struct Fields {
     pub e: [f32; 42],
 }
 
-// What restoring answers, and the record. No Result: theorems promise of a refused line too which record is handed back, one that every call refuses
-// (specs/Back.antt, RefusedGivesNoRecord).
+// A verdict, and the record that comes with it.
 #[derive(Clone, Copy)]
-pub struct Restored {
-    pub answer: Result<(), Refusal>,
+pub struct WithRecord<V> {
+    pub answer: V,
     pub rec: Record,
 }
+
+// What restoring answers, and the record. No Result: theorems promise of a refused line too which record is handed back, one that every call refuses
+// (specs/Back.antt, RefusedGivesNoRecord).
+pub type Restored = WithRecord<Result<(), Refusal>>;
 
 // Writes a record's line, without a line feed, to the front of a buffer of at least 390 bytes. Refused as 2 (the buffer), 1 (the next number)
 // and 3 (an energy).
@@ -53,11 +56,11 @@ pub fn restore(s: &[u8]) -> Restored
     ensures { said_restored result ≡ restoring s.now }
 {
     if 390 < s.len() {
-        return reads::refused(Refusal::Number);
+        return reads::refused(Err(Refusal::Number));
     }
     if text::fields::count(s) == 44 {
         reads::line(s)
     } else {
-        reads::refused(Refusal::Number)
+        reads::refused(Err(Refusal::Number))
     }
 }

@@ -2,14 +2,13 @@
 ghost use Rattle.std.specs.Prelude.{◌≡◌, map, ◌<◌, ◌≤◌, nat_abs, length, drop};
 ghost use Rattle.std.specs.Float.Ieee.{of_bits};
 ghost use Rattle.std.specs.Float.{binary32};
-ghost use Rattle.entcode.specs.Refusal.{number_of};
 ghost use Rattle.text.specs.Fields.{fields_of};
 ghost use Rattle.stream_saved.specs.Fields.{finite_only, of_word, in256ths, of_whole, Small, letter_of, energy_of};
-ghost use Rattle.stream_saved.specs.Lines.{letter, refused_as, answer_restored, restoring, said_restored};
+ghost use Rattle.stream_saved.specs.Lines.{letter, refused_as, answer_restored, restoring, said_with, said_restored};
 ghost use Rattle.stream_saved.specs.Loop.{none_read, read_field, read_from, refusal_fields, record_of_fields};
 
-use super::{Energy, Fields, Restored};
-use entcode::Refusal;
+use super::{Energy, Fields, Restored, WithRecord};
+use entcode::{Refusal, Verdict};
 use stream::Record;
 use text::fields::field;
 use text::read;
@@ -128,13 +127,13 @@ fn letter_at(s: &[u8]) -> u8
     letter_of(field(s, 0))
 }
 
-// A refusal, and a record that every call refuses, so that a caller who overlooks the refusal applies nothing.
-pub fn refused(why: Refusal) -> Restored
-    ensures { said_restored result ≡ refused_as (number_of why) }
+// A refusal, whatever says it, and a record that every call refuses, so that a caller who overlooks the refusal applies nothing.
+pub fn refused<V: Verdict>(no: V) -> WithRecord<V>
+    ensures { said_with V.number result ≡ refused_as (V.number no) }
 {
     let Record { energies, .. } = Record::fresh();
-    Restored {
-        answer: Err(why),
+    WithRecord {
+        answer: no,
         rec: Record {
             energies,
             next: 4294967296,
@@ -147,13 +146,13 @@ fn answer(n: Option<u32>, letter: u8, f: Fields) -> Restored
     ensures { said_restored result ≡ answer_restored (refusal_fields n letter f) (record_of_fields n f) }
 {
     let Some(next) = n else {
-        return refused(Refusal::Number);
+        return refused(Err(Refusal::Number));
     };
     let known = (letter == b'E') | (letter == b'Q');
     match entcode::refusal_of(true, known & f.good, f.tame, Ok(()), true, true) {
         Ok(()) => {
             let energies = f.e;
-            Restored {
+            WithRecord {
                 answer: Ok(()),
                 rec: Record {
                     energies,
@@ -161,7 +160,7 @@ fn answer(n: Option<u32>, letter: u8, f: Fields) -> Restored
                 },
             }
         }
-        Err(why) => refused(why),
+        Err(why) => refused(Err(why)),
     }
 }
 

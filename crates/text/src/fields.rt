@@ -12,7 +12,7 @@ pub fn field(s: &[u8], n: usize) -> &[u8]
     &s[p.start..p.end]
 }
 
-// How many fields a line has: one more than tabs. A loop, since `filter` and `count` take half as long again for each byte, and every line is counted.
+// How many fields a line has: one more than tabs. A loop, since `filter` and `count` take more instructions for each byte of a line.
 pub fn count(s: &[u8]) -> usize
     ensures { result ≡ length (fields_of s.now) }
 {

@@ -1,5 +1,7 @@
 -- `quant_bands::bands::Bands::of`: the numbers as counts are in the domain. Assumes nothing.
+use mathlib.Core.Path.{ap, ◌∙◌}
 use mir.Facts.{to_z-of_z}
+use Rattle.laws.specs.Signs.{clip}
 use Rattle.quant_bands.proofs.Accepts.{bands_in}
 use Rattle.quant_bands.proofs.bands.Bands.of.Goals as goal
 
@@ -9,8 +11,8 @@ invariant_of-result c =
     let a = c.args in
     record {
       within = rw (
-        rw (to_z-of_z f.c) at c.clipped.ensures.0,
-        rw (to_z-of_z f.start) at c.place_of.ensures,
-        rw (to_z-of_z f.end) at c.place_of-2.ensures,
+        c.clipped.ensures.0 ∙ ap clip (to_z-of_z f.c),
+        c.place_of.ensures ∙ ap clip (to_z-of_z f.start),
+        c.place_of-2.ensures ∙ ap clip (to_z-of_z f.end),
       ) (bands_in a.c a.start a.end c.requires);
     }
