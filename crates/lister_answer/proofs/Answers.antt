@@ -115,7 +115,7 @@ bytes-length [] = refl
 bytes-length (a ∷ []) = refl
 bytes-length (a ∷ b ∷ t) = let e : length (bytes_of t) ≡ length t / 2 = bytes-length t in omega arith
 
--- the packet's field in a well_formed_lem line
+-- the packet's field in a well-formed line
 packet-hex-length : (s : List ℕ) → well_formed s ≡ true → length (packet_hex s) ≤ 2550
 unfolding well_formed hex_bytes
 packet-hex-length s h =
@@ -138,7 +138,7 @@ packet-length s packet h e =
 
 -- ---- the packet in its buffer
 
--- the packet of a well_formed_lem line stands in the first n bytes of a buffer
+-- the packet of a well-formed line stands in the first n bytes of a buffer
 pub record PacketRead (s : List ℕ) (n : ℕ) (last : List ℕ) : Type 0 where
   pub good : well_formed s ≡ true
   pub fits : n ≤ length last

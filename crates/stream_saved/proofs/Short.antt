@@ -1,4 +1,4 @@
--- A well_formed_lem line has at most 390 bytes: a letter, 10 figures, 42 fields of 8 bytes at most, and 43 tabs. Assumes nothing.
+-- A well-formed line has at most 390 bytes: a letter, 10 figures, 42 fields of 8 bytes at most, and 43 tabs. Assumes nothing.
 use Rattle.std.specs.Prelude.{ℤ, Option, Some, None}
 use Prim.Native.Nat.{ℕ, suc, ◌-◌, ◌*◌, ◌≤◌}
 use mathlib.Core.Path.{◌≡◌, refl}

@@ -77,7 +77,7 @@ module _ (s : List ℕ) where
   unfoldable pub refusal_line : ℕ
   refusal_line = refusal true well_formed (every not_wild energies_read) 0 true true
 
-  -- the record that a well_formed_lem line stands for
+  -- the record that a well-formed line stands for
   abbrev pub record_read : Record
   record_read = record { energies = map float_of energies_read; next = the_number next_read }
 
